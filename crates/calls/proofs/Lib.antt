@@ -1,0 +1,6 @@
+pub mod Computing
+pub mod Drive
+pub mod Marked
+pub mod Further
+pub mod Refusals
+pub mod Records

@@ -1,0 +1,4 @@
+pub mod Areas
+pub mod Checks
+pub mod RecordCheck
+pub mod Calls

@@ -1,0 +1,1 @@
+// What terrain and obstacles block.

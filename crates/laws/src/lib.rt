@@ -1,0 +1,1 @@
+// Words for lists and laws that several crates cite. No code.

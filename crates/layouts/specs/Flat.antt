@@ -1,0 +1,35 @@
+-- Placements lent flat: four numbers each (spec index, group, tile x, tile y) in one row, eight edges each (footprint, collision) in another.
+use Prim.Native.Nat.{ℕ, _+_, _*_, _/_, min}
+use mathlib.Core.Bool.{true, false, _&&_}
+use mathlib.Core.List.{List, [], _∷_, _++_, map}
+use lib.Dec.{eqb}
+use lib.IntN.{ℤ, pos}
+use lib.ListN.{length, getD}
+use Rattle.laws.specs.Lists.{below}
+use Rattle.model.specs.declared.Rect.{Rect}
+use Rattle.model.specs.declared.Placement.{Placement}
+use Rattle.rects.specs.Rects.{rect}
+use Rattle.layouts.specs.Inputs.{noPlace}
+
+-- the rectangle whose four edges stand from k on
+unfoldable pub rectAt : List ℤ → ℕ → Rect
+rectAt edges k = rect (getD edges k (pos 0)) (getD edges (k + 1) (pos 0)) (getD edges (k + 2) (pos 0)) (getD edges (k + 3) (pos 0))
+
+unfoldable pub placementAt : List ℕ → List ℤ → ℕ → Placement
+placementAt numbers edges i = record {
+  spec = getD numbers (4 * i) 0;
+  group = getD numbers (4 * i + 1) 0;
+  tile = record { x = getD numbers (4 * i + 2) 0; y = getD numbers (4 * i + 3) 0 };
+  footprint = rectAt edges (8 * i);
+  collision = rectAt edges (8 * i + 4);
+}
+
+-- how many placements stand whole in both rows
+unfoldable pub wholes : List ℕ → List ℤ → ℕ
+wholes numbers edges = min (length numbers / 4) (length edges / 8)
+
+-- a part left over in either row counts as one more placement, with empty rectangles
+unfoldable pub placementsOf : List ℕ → List ℤ → List Placement
+placementsOf numbers edges =
+    map (placementAt numbers edges) (below (wholes numbers edges))
+    ++ elim (eqb (length numbers) (4 * wholes numbers edges) && eqb (length edges) (8 * wholes numbers edges)) [ true ↦ [] | false ↦ noPlace ∷ [] ]

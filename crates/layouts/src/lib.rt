@@ -1,0 +1,1 @@
+// One set of placements: what it leaves open, its evaluation, what a wall is, judging.

@@ -1,0 +1,10 @@
+pub mod Cases
+pub mod Walks
+pub mod SearchLaws
+pub mod Neighbours
+pub mod RouteTheorem
+pub mod Reach
+pub mod Leans
+pub mod StepLaws
+pub mod WindowLaws
+pub mod Legs

@@ -1,0 +1,4 @@
+pub mod Edges
+pub mod Routes
+pub mod Chains
+pub mod Roads

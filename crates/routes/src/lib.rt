@@ -1,0 +1,1 @@
+// Routes: definitions and their theory. No code.

@@ -1,0 +1,1 @@
+// The search over sets of placements, frame by frame.
