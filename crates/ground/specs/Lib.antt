@@ -1,1 +1,2 @@
 pub mod Baseline
+pub mod Laid

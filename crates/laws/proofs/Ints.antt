@@ -92,6 +92,9 @@ fact-nleZ a b h = leZ-parts a b ∙ lt-leb (up a + dn b) (up b + dn a) h
 pub fact-ltZ : (a b : ℤ) → up a + dn b < up b + dn a → ltZ a b ≡ true
 fact-ltZ a b h = ltZ-parts a b ∙ lt-ltb (up a + dn b) (up b + dn a) h
 
+pub fact-nltZ : (a b : ℤ) → up b + dn a ≤ up a + dn b → ltZ a b ≡ false
+fact-nltZ a b h = ltZ-parts a b ∙ le-ltb (up a + dn b) (up b + dn a) h
+
 -- ---- equality, range, and the way back to a natural
 pub eq-parts : (a b : ℤ) → up a + dn b ≡ up b + dn a → a ≡ b
 eq-parts (pos a) (pos b) h = ap pos (omega arith)

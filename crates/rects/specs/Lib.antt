@@ -1,2 +1,3 @@
 pub mod Rects
 pub mod Windows
+pub mod Spans

@@ -1,0 +1,3 @@
+pub mod Puts
+pub mod Laying
+pub mod Back

@@ -1,0 +1,52 @@
+-- `integer_put`: a number, or a sign and then a number.
+use borrow.Author.Needs.{needs}
+use lib.ListN.{length-set}
+use native.Mathlib.Omega.{arith}
+use Rattle.print.proofs.Puts.{put-plain, plain-long, minus-long, put-minus, put-length}
+use Rattle.print.proofs.integer_put.Statement.{statement}
+use Rattle.print.proofs.integer_put.Tie as tie
+
+number-put-requires : tie.Need-number-put-requires
+number-put-requires c κs = omega (arith, plain-long (c .before .before .before .args .x) (c .before .if1 .taken))
+
+same-length : tie.Need-same-length
+same-length c = search needs
+
+returns : tie.Need-returns
+returns c = put-plain _ _ _ _ _ (c .before .before .before .before .if1 .taken) (c .before .before .number-put .ensures)
+
+slice-write-out : tie.Need-slice-write-out
+slice-write-out c = omega (arith, minus-long (c .before .before .args .x) (c .if1 .left) (c .before .before .fits .x .fits))
+
+add-number-put : tie.Need-add-number-put
+add-number-put c = search needs
+
+sub-number-put : tie.Need-sub-number-put
+sub-number-put c = search needs
+
+add-number-put-2 : tie.Need-add-number-put-2
+add-number-put-2 c = search needs
+
+number-put-requires-2 : tie.Need-number-put-requires-2
+number-put-requires-2 c κs = omega (arith, minus-long (c .before .before .before .args .x) (c .before .if1 .left) (c .before .before .before .fits .x .fits), length-set (c .before .before .before .args .out .now) (c .before .before .before .args .at) 45)
+
+same-length-2 : tie.Need-same-length-2
+same-length-2 c = put-length _ (c .before .before .before .before .before .before .args .out .now) _ _ _ (put-minus _ (c .before .before .before .before .before .before .args .out .now) _ _ _ (c .before .before .before .before .if1 .left) (c .before .before .before .before .before .before .fits .x .fits) (c .before .before .number-put2 .ensures))
+
+returns-2 : tie.Need-returns-2
+returns-2 c = put-minus _ _ _ _ _ (c .before .before .before .before .if1 .left) (c .before .before .before .before .before .before .fits .x .fits) (c .before .before .number-put2 .ensures)
+
+pub integer-put-spec : {M : Type 1} → statement M
+integer-put-spec =
+    tie.close
+    (tie.spec
+    number-put-requires
+    same-length
+    returns
+    slice-write-out
+    add-number-put
+    sub-number-put
+    add-number-put-2
+    number-put-requires-2
+    same-length-2
+    returns-2)

@@ -1,0 +1,4 @@
+pub mod Edges
+pub mod Axes
+pub mod Windows
+pub mod Rows

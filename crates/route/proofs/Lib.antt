@@ -1,0 +1,13 @@
+pub mod Order
+pub mod Steps
+pub mod Marks
+pub mod Entering
+pub mod Expanding
+pub mod Turns
+pub mod Traces
+pub mod Clears
+pub mod Simulation
+pub mod Searching
+pub mod Walks
+pub mod Wiping
+pub mod Routing

@@ -1,0 +1,78 @@
+-- `route::lay` meets its contract. Invariant `Laying`; the measure is the number of points left.
+use mathlib.Core.Path.{ap}
+use Prim.Native.Nat.{ℕ}
+use native.Mathlib.Omega.{arith}
+use lib.ListN.{getD, length-set}
+use Rattle.route.proofs.Walks.{Laying, laying-begin, laying-marked, laying-next, laying-done}
+use Rattle.route.proofs.lay.Statement.{statement}
+use Rattle.route.proofs.lay.Tie as tie
+
+abbrev Inv-loop : tie.InvT-loop
+Inv-loop previous start end n path₀ i₀ x₀ path i x = Laying previous start end n path₀ path i x
+
+abbrev μ-loop : tie.MeasureT-loop
+μ-loop previous start end n path₀ i₀ x₀ path i x = i
+
+narrow-requires : tie.Need-narrow-requires Inv-loop μ-loop
+narrow-requires c κs = c .before .before .pre .1 .1
+
+loop-holds : tie.Need-loop-holds Inv-loop μ-loop
+loop-holds c = rw (c .narrow .ensures) (laying-begin _ _ _ _ _ (c .before .before .before .pre .0) (c .before .before .before .pre .1 .0))
+
+sub-i : tie.Need-sub-i Inv-loop μ-loop
+sub-i c = omega arith
+
+mul-path : tie.Need-mul-path Inv-loop μ-loop
+mul-path c = omega arith
+
+slice-write-path : tie.Need-slice-write-path Inv-loop μ-loop
+slice-write-path c = omega arith
+
+index-requires : tie.Need-index-requires Inv-loop μ-loop
+index-requires c κs = tt
+
+mul-x : tie.Need-mul-x Inv-loop μ-loop
+mul-x c = let m = laying-marked _ _ _ _ _ _ _ _ (c .before .before .loop .inv) (c .before .loop-test .taken) in omega (arith, c .index .ensures)
+
+shared-slice-read-x : tie.Need-shared-slice-read-x Inv-loop μ-loop
+shared-slice-read-x c = let m = laying-marked _ _ _ _ _ _ _ _ (c .before .before .before .loop .inv) (c .before .before .loop-test .taken) in omega (arith, c .before .index .ensures)
+
+sub-x : tie.Need-sub-x Inv-loop μ-loop
+sub-x c = let m = laying-marked _ _ _ _ _ _ _ _ (c .before .before .before .loop .inv) (c .before .before .loop-test .taken) in rw (c .before .index .ensures) (omega arith)
+
+loop-less : tie.Need-loop-less Inv-loop μ-loop
+loop-less c = omega arith
+
+loop-again : tie.Need-loop-again Inv-loop μ-loop
+loop-again c =
+    laying-next _ _ _ _ _ _ _ _ (c .before .before .before .loop .inv) (c .before .before .loop-test .taken) _ (ap (λ (k : ℕ). getD (c .before .before .before .before .before .before .before .args .previous .now) k 0) (c .before .index .ensures))
+
+slice-write-path-2 : tie.Need-slice-write-path-2 Inv-loop μ-loop
+slice-write-path-2 c = omega arith
+
+same-length : tie.Need-same-length Inv-loop μ-loop
+same-length c = simp length-set (c .before .loop .inv .kept)
+
+returns : tie.Need-returns Inv-loop μ-loop
+returns c = laying-done _ _ _ _ _ _ _ _ (c .before .loop .inv) (c .loop-test .left)
+
+pub lay-spec : {M : Type 1} → statement M
+lay-spec =
+    tie.close
+    (tie.spec
+    Inv-loop
+    μ-loop
+    narrow-requires
+    loop-holds
+    sub-i
+    mul-path
+    slice-write-path
+    index-requires
+    mul-x
+    shared-slice-read-x
+    sub-x
+    loop-less
+    loop-again
+    slice-write-path-2
+    same-length
+    returns)

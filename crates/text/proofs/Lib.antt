@@ -1,0 +1,10 @@
+pub mod Laws
+pub mod Decimals
+pub mod Places
+pub mod Pieces
+pub mod Walk
+pub mod Runs
+pub mod DigitRuns
+pub mod Whole
+pub mod Carry
+pub mod Marked

@@ -1,0 +1,5 @@
+pub mod Forms
+pub mod Patterns
+pub mod Reading
+pub mod Answers
+pub mod Inner
