@@ -1,10 +1,11 @@
 # make test      the gate: proves every crate from nothing, tries the must-fail edits, runs the programs
 # make run       answers a drive sheet: make run SHEET=file
+# make routes    runs the proved search for a route beside its rule computed another way
 # make answers   prints the original Rust's answers to the kept list of searches, and compares them with the list
 
 KIT = rattle-kit-5b logic 064da1ca440f63e7
 
-.PHONY: test run answers kit
+.PHONY: test run routes answers kit
 
 test: kit
 	@rt ci
@@ -14,6 +15,11 @@ kit:
 
 run:
 	@echo "make run: there is no program yet that answers a drive sheet"; exit 1
+
+routes:
+	@command -v cargo >/dev/null || { echo "make routes: cargo is not at hand"; exit 1; }
+	@rt staticlib route_c > /dev/null
+	@cd compare/routes && cargo run --quiet --release > target/stdout && cmp target/stdout stdout && cat stdout
 
 answers:
 	@command -v cargo >/dev/null || { echo "make answers: cargo is not at hand, so the original Rust cannot be run"; exit 1; }

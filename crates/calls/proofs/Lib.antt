@@ -4,3 +4,12 @@ pub mod Marked
 pub mod Further
 pub mod Refusals
 pub mod Records
+pub mod Blocks
+pub mod Back
+pub mod Clearing
+pub mod Sound
+pub mod Whole
+pub mod Checked
+pub mod Accepted
+pub mod Again
+pub mod StepLaws

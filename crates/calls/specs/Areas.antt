@@ -30,6 +30,12 @@ pub record Store : Type 0 where
   pub layouts : List ℕ
   pub points : List ℕ
 
+abbrev pub workIn : List ℤ → (map queue predecessors route : List ℕ) → Work
+workIn counts map queue predecessors route = record { counts = counts; map = map; queue = queue; predecessors = predecessors; route = route }
+
+abbrev pub storeIn : (lists visited layouts points : List ℕ) → Store
+storeIn lists visited layouts points = record { lists = lists; visited = visited; layouts = layouts; points = points }
+
 -- ---- lengths
 -- counts: (width + 1) × (height + 1)
 unfoldable pub countsLength : Rect → ℕ

@@ -5,3 +5,5 @@ pub mod Lists
 pub mod Sets
 pub mod Fill
 pub mod Tests
+pub mod Tables
+pub mod Turns

@@ -8,8 +8,10 @@ use lib.ListN.{length, getD}
 use Rattle.laws.specs.Lists.{below}
 use Rattle.model.specs.declared.Rect.{Rect}
 use Rattle.model.specs.declared.Placement.{Placement}
-use Rattle.rects.specs.Rects.{rect}
-use Rattle.layouts.specs.Inputs.{noPlace}
+use Rattle.model.specs.declared.Query.{Query}
+use Rattle.rects.specs.Rects.{rect, intersects}
+use Rattle.layouts.specs.Boards.{Places}
+use Rattle.layouts.specs.Inputs.{Inputs, noPlace}
 
 -- the rectangle whose four edges stand from k on
 unfoldable pub rectAt : List ℤ → ℕ → Rect
@@ -33,3 +35,17 @@ unfoldable pub placementsOf : List ℕ → List ℤ → List Placement
 placementsOf numbers edges =
     map (placementAt numbers edges) (below (wholes numbers edges))
     ++ elim (eqb (length numbers) (4 * wholes numbers edges) && eqb (length edges) (8 * wholes numbers edges)) [ true ↦ [] | false ↦ noPlace ∷ [] ]
+
+-- the inputs of a call whose placements are lent flat
+unfoldable pub inputsOf : Query → (groups numbers : List ℕ) → List ℤ → (blockBase allowBase : List ℕ) → Inputs
+inputsOf q groups numbers edges blockBase allowBase =
+    record { query = q; groups = groups; places = placementsOf numbers edges; blockBase = blockBase; allowBase = allowBase }
+
+-- n placements, read from the rows by index
+unfoldable pub placesIn : ℕ → (groups numbers : List ℕ) → List ℤ → Places
+placesIn n groups numbers edges = record {
+  count = n;
+  group = λ i. getD numbers (4 * i + 1) 0;
+  slots = λ k. getD groups k 0;
+  overlap = λ i j. intersects (rectAt edges (8 * i)) (rectAt edges (8 * j));
+}

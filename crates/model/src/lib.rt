@@ -101,6 +101,12 @@ pub enum Answer {
     Refused(Refusal),
 }
 
+// What a call that works on a search gives back: its answer, and the search record.
+pub struct Reply {
+    pub answer: Answer,
+    pub rec: Record,
+}
+
 // What a selection of placements comes to.
 pub enum Verdict {
     Slots,

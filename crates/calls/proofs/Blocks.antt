@@ -1,0 +1,157 @@
+-- Lists laid one after another, and what stands where.
+use Prim.Native.Nat.{ℕ, zero, suc, _+_, _-_, _*_, _≤_, _<_}
+use mathlib.Core.Path.{_≡_, refl, sym, _∙_, ap}
+use mathlib.Core.List.{List, [], _∷_, _++_, map, append-assoc}
+use native.Mathlib.Omega.{arith}
+use native.Mathlib.Nat.{suc-mul, zero-mul}
+use lib.ListN.{length, take, drop, getD, replicate, length-append, length-replicate, take-append-drop}
+use lib.Seq.{take-append-seam, drop-append-add, take-at, drop-drop}
+use Rattle.laws.specs.Lists.{below, span, total, flat, padded}
+use Rattle.calls.specs.Areas.{laid}
+
+abbrev pub zeros : ℕ → List ℕ
+zeros n = replicate n 0
+
+-- an area with ys stored from `at` on
+unfoldable pub over : List ℕ → ℕ → List ℕ → List ℕ
+over l at ys = (take at l ++ ys) ++ drop (at + length ys) l
+
+pub length-zeros : (n : ℕ) → length (zeros n) ≡ n
+length-zeros n = length-replicate {A = ℕ} n 0
+
+pub length-padded : (n : ℕ) (xs : List ℕ) → length xs ≤ n → length (padded n xs) ≡ n
+unfolding padded
+length-padded n xs h = length-append xs (zeros (n - length xs)) ∙ (let z = length-zeros (n - length xs) in let w : length xs + length (zeros (n - length xs)) ≡ n = omega arith in w)
+
+-- ---- the numbers below n
+module _ {A : Type 0} where
+  -- a list is what a function gives below its length
+  pub map-span : (f : ℕ → A) (d : A) (j : ℕ) (xs : List A) → ((k : ℕ) → k < length xs → f (j + k) ≡ getD xs k d) → map f (span j (length xs)) ≡ xs
+  unfolding span
+  map-span f d j [] h = refl
+  map-span f d j (x ∷ xs) h =
+      ap (λ (y : A). y ∷ map f (span (suc j) (length xs))) (ap f (let w : j ≡ j + 0 = omega arith in w) ∙ h 0 (omega arith))
+      ∙ ap (λ (q : List A). x ∷ q) (map-span f d (suc j) xs (λ k l. ap f (let w : suc j + k ≡ j + suc k = omega arith in w) ∙ h (suc k) (omega arith)))
+
+  pub map-below : (f : ℕ → A) (d : A) (n : ℕ) (xs : List A) → n ≡ length xs → ((k : ℕ) → k < n → f k ≡ getD xs k d) → map f (below n) ≡ xs
+  unfolding below
+  map-below f d n xs e h =
+      ap (λ (m : ℕ). map f (span 0 m)) e
+      ∙ map-span f d 0 xs (λ k l. ap f (let w : 0 + k ≡ k = omega arith in w) ∙ h k (omega arith))
+
+  pub map-span-ext : (f g : ℕ → A) (j n : ℕ) → ((k : ℕ) → k < j + n → f k ≡ g k) → map f (span j n) ≡ map g (span j n)
+  unfolding span
+  map-span-ext f g j zero h = refl
+  map-span-ext f g j (suc n) h =
+      ap (λ (y : A). y ∷ map f (span (suc j) n)) (h j (omega arith))
+      ∙ ap (λ (q : List A). g j ∷ q) (map-span-ext f g (suc j) n (λ k l. h k (omega arith)))
+
+  pub map-below-ext : (f g : ℕ → A) (n : ℕ) → ((k : ℕ) → k < n → f k ≡ g k) → map f (below n) ≡ map g (below n)
+  unfolding below
+  map-below-ext f g n h = map-span-ext f g 0 n (λ k l. h k (omega arith))
+
+  pub flat-append : (xs ys : List (List A)) → flat (xs ++ ys) ≡ flat xs ++ flat ys
+  unfolding flat
+  flat-append [] ys = refl
+  flat-append (x ∷ xs) ys = ap (λ (q : List A). x ++ q) (flat-append xs ys) ∙ sym (append-assoc x (flat xs) (flat ys))
+
+pub span-snoc : (j n : ℕ) → span j (suc n) ≡ span j n ++ ((j + n) ∷ [])
+unfolding span
+span-snoc j zero = ap (λ (k : ℕ). k ∷ []) (let w : j ≡ j + 0 = omega arith in w)
+span-snoc j (suc n) = ap (λ (q : List ℕ). j ∷ q) (span-snoc (suc j) n ∙ ap (λ (k : ℕ). span (suc j) n ++ (k ∷ [])) (let w : suc j + n ≡ j + suc n = omega arith in w))
+
+pub below-snoc : (n : ℕ) → below (suc n) ≡ below n ++ (n ∷ [])
+unfolding below
+below-snoc n = span-snoc 0 n ∙ ap (λ (k : ℕ). span 0 n ++ (k ∷ [])) (let w : 0 + n ≡ n = omega arith in w)
+
+pub length-span : (j n : ℕ) → length (span j n) ≡ n
+unfolding span
+length-span j zero = refl
+length-span j (suc n) = ap suc (length-span (suc j) n)
+
+pub length-below : (n : ℕ) → length (below n) ≡ n
+unfolding below
+length-below n = length-span 0 n
+
+module _ {A B : Type 0} where
+  pub map-append : (f : A → B) (xs ys : List A) → map f (xs ++ ys) ≡ map f xs ++ map f ys
+  map-append f [] ys = refl
+  map-append f (x ∷ xs) ys = ap (λ (q : List B). f x ∷ q) (map-append f xs ys)
+
+  pub map-map : {C : Type 0} (g : B → C) (f : A → B) (xs : List A) → map g (map f xs) ≡ map (λ (x : A). g (f x)) xs
+  map-map g f [] = refl
+  map-map {C} g f (x ∷ xs) = ap (λ (q : List C). g (f x) ∷ q) (map-map g f xs)
+
+  pub getD-map : (f : A → B) (xs : List A) (k : ℕ) (d : A) (e : B) → k < length xs → getD (map f xs) k e ≡ f (getD xs k d)
+  getD-map f [] k d e h = absurd (omega arith)
+  getD-map f (x ∷ xs) zero d e h = refl
+  getD-map f (x ∷ xs) (suc k) d e h = getD-map f xs k d e (omega arith)
+
+-- ---- lists one after another: list k begins at the total of the lengths before it
+unfoldable pub starts : ℕ → List (List ℕ) → ℕ
+starts k bs = total (take k (map length bs))
+
+pub drop-flat : (bs : List (List ℕ)) (z : List ℕ) (k : ℕ) → k < length bs → drop (starts k bs) (flat bs ++ z) ≡ getD bs k [] ++ (flat (drop (suc k) bs) ++ z)
+unfolding flat starts total
+drop-flat [] z k h = absurd (omega arith)
+drop-flat (b ∷ bs) z zero h = append-assoc b (flat bs) z
+drop-flat (b ∷ bs) z (suc k) h =
+    ap (λ (q : List ℕ). drop (length b + total (take k (map length bs))) q) (append-assoc b (flat bs) z)
+    ∙ drop-append-add b (flat bs ++ z) (total (take k (map length bs)))
+    ∙ drop-flat bs z k (omega arith)
+
+-- lists of one length
+abbrev pub Wide : ℕ → List (List ℕ) → Type 0
+Wide w [] = Unit {0}
+Wide w (b ∷ bs) = (length b ≡ w) × Wide w bs
+
+pub starts-wide : (w : ℕ) (bs : List (List ℕ)) → Wide w bs → (k : ℕ) → k ≤ length bs → starts k bs ≡ k * w
+unfolding starts total
+starts-wide w bs h zero l = let z = zero-mul w in omega arith
+starts-wide w [] h (suc k) l = absurd (omega arith)
+starts-wide w (b ∷ bs) h (suc k) l =
+    let e = starts-wide w bs (h .1) k (omega arith) in
+    let m = suc-mul k w in
+    let g = h .0 in
+    omega arith
+
+pub drop-wide : (w : ℕ) (bs : List (List ℕ)) (z : List ℕ) (k : ℕ) → Wide w bs → k < length bs → drop (k * w) (flat bs ++ z) ≡ getD bs k [] ++ (flat (drop (suc k) bs) ++ z)
+drop-wide w bs z k h l = ap (λ (n : ℕ). drop n (flat bs ++ z)) (sym (starts-wide w bs h k (omega arith))) ∙ drop-flat bs z k l
+
+pub length-wide : (w : ℕ) (bs : List (List ℕ)) → Wide w bs → length (flat bs) ≡ length bs * w
+unfolding flat
+length-wide w [] h = let z = zero-mul w in omega arith
+length-wide w (b ∷ bs) h = length-append b (flat bs) ∙ (let e = length-wide w bs (h .1) in let m = suc-mul (length bs) w in let g = h .0 in let x : length b + length (flat bs) ≡ suc (length bs) * w = omega arith in x)
+
+-- the entries of a padded list, with what stands past it
+pub take-padded : (n : ℕ) (es z : List ℕ) → take (length es) (padded n es ++ z) ≡ es
+unfolding padded
+take-padded n es z = ap (λ (q : List ℕ). take (length es) q) (append-assoc es (zeros (n - length es)) z) ∙ take-append-seam es (zeros (n - length es) ++ z)
+
+-- ---- clearing
+-- The entries of one list are kept and those up to its width become zero; what stands past it is not touched yet.
+pub clear-one : (X a used : List ℕ) (at w : ℕ) → length X ≡ at → used ≡ take (length used) (drop at a) → length used ≤ w → at + w ≤ length a
+    → over (X ++ drop at a) (at + length used) (zeros (w - length used)) ≡ (X ++ padded w used) ++ drop (at + w) a
+unfolding over padded
+clear-one X a used at w e u h k =
+    let d : ℕ = w - length used in
+    let R : List ℕ = drop (at + length used) a in
+    let s : drop at a ≡ used ++ R = sym (take-append-drop (length used) (drop at a)) ∙ ap (λ (q : List ℕ). q ++ drop (length used) (drop at a)) (sym u) ∙ ap (λ (q : List ℕ). used ++ q) (drop-drop (length used) at a) in
+    let t : X ++ drop at a ≡ (X ++ used) ++ R = ap (λ (q : List ℕ). X ++ q) s ∙ sym (append-assoc X used R) in
+    let l : length (X ++ used) ≡ at + length used = length-append X used ∙ ap (λ (n : ℕ). n + length used) e in
+    let lz = length-zeros d in
+    ap (λ (q : List ℕ). (take (at + length used) q ++ zeros d) ++ drop (at + length used + length (zeros d)) q) t
+    ∙ ap (λ (q : List ℕ). (q ++ zeros d) ++ drop (at + length used + length (zeros d)) ((X ++ used) ++ R)) (take-at (X ++ used) R (at + length used) l)
+    ∙ ap (λ (n : ℕ). ((X ++ used) ++ zeros d) ++ drop n ((X ++ used) ++ R)) (let x : at + length used + length (zeros d) ≡ length (X ++ used) + d = omega arith in x)
+    ∙ ap (λ (q : List ℕ). ((X ++ used) ++ zeros d) ++ q) (drop-append-add (X ++ used) R d ∙ drop-drop d (at + length used) a ∙ ap (λ (n : ℕ). drop n a) (let x : at + length used + d ≡ at + w = omega arith in x))
+    ∙ ap (λ (q : List ℕ). q ++ drop (at + w) a) (append-assoc X used (zeros d))
+
+-- allOf that is left up to the area's length becomes zero
+pub clear-rest : (X a : List ℕ) (at n : ℕ) → length X ≡ at → at ≤ n → over (X ++ drop at a) at (zeros (n - at)) ≡ laid n X a
+unfolding over laid padded
+clear-rest X a at n e h =
+    let lz = length-zeros (n - at) in
+    ap (λ (q : List ℕ). (q ++ zeros (n - at)) ++ drop (at + length (zeros (n - at))) (X ++ drop at a)) (take-at X (drop at a) at e)
+    ∙ ap (λ (m : ℕ). (X ++ zeros (n - at)) ++ drop m (X ++ drop at a)) (let x : at + length (zeros (n - at)) ≡ length X + (n - at) = omega arith in x)
+    ∙ ap (λ (q : List ℕ). (X ++ zeros (n - at)) ++ q) (drop-append-add X (drop at a) (n - at) ∙ drop-drop (n - at) at a ∙ ap (λ (m : ℕ). drop m a) (let x : at + (n - at) ≡ n = omega arith in x))
+    ∙ ap (λ (m : ℕ). (X ++ zeros (n - m)) ++ drop n a) (sym e)

@@ -1,0 +1,5 @@
+pub mod Laws
+pub mod RowLaws
+pub mod ListLaws
+pub mod ArrayLaws
+pub mod Whole

@@ -1,0 +1,192 @@
+// Clearing the unused entries of a record and its areas, once 16 has let them pass.
+use model::Allow;
+use model::Limits;
+use model::Query;
+use model::Record;
+ghost use mathlib.Core.Path.{_≡_};
+ghost use mathlib.Core.Bool.{true};
+ghost use mathlib.Core.List.{List, map, reverse};
+ghost use Prim.Native.Nat.{ℕ, _+_, _*_, _≤_, _<_, min};
+ghost use lib.ListN.{length, take, getD};
+ghost use Rattle.laws.specs.Lists.{below, flat, padded, total};
+ghost use Rattle.rects.specs.Windows.{windowFits};
+ghost use Rattle.layouts.specs.Inputs.{Inputs};
+ghost use Rattle.search.specs.State.{Extensions};
+ghost use Rattle.calls.specs.Areas.{laid, rowOf, row, listsOf, storeIn};
+ghost use Rattle.clear.specs.Stores.{zeroed, RowsIn, ListsIn, pointsRoom, tidy, Sized, Used, Passing, LaidBack};
+
+fn index(n: u32) -> usize
+    ensures { λ r. ⌜ r ≡ n ⌝ }
+{
+    n as usize
+}
+
+// Clears n entries of the area, from `at` on.
+fn clear_in(area: &mut [u16], at: usize, n: usize)
+    requires { ⌜ at + n ≤ length (now area) ⌝ }
+    ensures { λ _. ⌜ now (area .exit) ≡ zeroed (now (area .entry)) at n ⌝ }
+{
+    let mut i = 0;
+    while i < n {
+        area[at + i] = 0;
+        i = i + 1;
+    }
+}
+
+// Clears n points' numbers, from `at` on.
+fn clear_points(area: &mut [u32], at: usize, n: usize)
+    requires { ⌜ at + n ≤ length (now area) ⌝ }
+    ensures { λ _. ⌜ now (area .exit) ≡ zeroed (now (area .entry)) at n ⌝ }
+{
+    let mut i = 0;
+    while i < n {
+        area[at + i] = 0;
+        i = i + 1;
+    }
+}
+
+// Clears the unused members of the first `count` rows, and all that follows them up to n.
+fn clear_rows(area: &mut [u16], count: usize, n: usize)
+    requires { ⌜ RowsIn (now area) count n ⌝ }
+    ensures { λ _. ⌜ now (area .exit) ≡ laid n (flat (map row (map (rowOf (now (area .entry))) (below count)))) (now (area .entry)) ⌝ }
+{
+    let mut k = 0;
+    while k < count {
+        let used = area[k * 7] as usize;
+        clear_in(area, k * 7 + (used + 1), 6 - used);
+        k = k + 1;
+    }
+    clear_in(area, count * 7, n - count * 7);
+}
+
+// Clears the unused entries of the lists, and all that follows them up to six times the placements.
+fn clear_lists(area: &mut [u16], rec: Record)
+    requires { ⌜ ListsIn (now area) (rec .lengths) (rec .lists) (rec .placements) ⌝ }
+    ensures { λ _. ⌜ now (area .exit) ≡ laid (6 * rec .placements) (flat (map (λ (e : Extensions). padded (rec .placements) (e .entries)) (reverse (listsOf rec (now (area .entry)) (rec .lists))))) (now (area .entry)) ⌝ }
+{
+    let places = rec.placements as usize;
+    let lists = rec.lists as usize;
+    let lengths = rec.lengths;
+    let mut k = 0;
+    while k < lists {
+        let used = lengths[k] as usize;
+        clear_in(area, k * places + used, places - used);
+        k = k + 1;
+    }
+    clear_in(area, lists * places, 6 * places - lists * places);
+}
+
+// The routes' lengths with zeros from `from` on.
+fn cleared_routes(xs: [u32; 32], from: usize) -> [u32; 32]
+    requires { ⌜ from ≤ 32 ⌝ }
+    ensures { λ r. ⌜ (r ≡ padded 32 (take from xs)) × (length xs ≡ 32) ⌝ }
+{
+    let mut out = xs;
+    let n = 32 - from;
+    let mut i = 0;
+    while i < n {
+        out[from + i] = 0;
+        i = i + 1;
+    }
+    out
+}
+
+// The lists' numbers with zeros from `from` on.
+fn cleared_numbers(xs: [u32; 6], from: usize) -> [u32; 6]
+    requires { ⌜ from ≤ 6 ⌝ }
+    ensures { λ r. ⌜ (r ≡ padded 6 (take from xs)) × (length xs ≡ 6) ⌝ }
+{
+    let mut out = xs;
+    let n = 6 - from;
+    let mut i = 0;
+    while i < n {
+        out[from + i] = 0;
+        i = i + 1;
+    }
+    out
+}
+
+// How many points the first `count` routes have together.
+fn kept_points(routes: [u32; 32], count: usize) -> usize
+    requires { ⌜ (count ≤ 32) × (total (take count routes) ≤ 1000000) ⌝ }
+    ensures { λ r. ⌜ r ≡ total (take count routes) ⌝ }
+{
+    let mut sum = 0;
+    let mut i = 0;
+    while i < count {
+        let points = index(routes[i]);
+        sum += points;
+        i += 1;
+    }
+    sum
+}
+
+// Two numbers for each of at most 1,000,000 points.
+fn pairs(most: usize) -> usize
+    ensures { λ r. ⌜ r ≡ 2 * min 1000000 most ⌝ }
+{
+    if most > 1000000 {
+        return 2000000;
+    }
+    2 * most
+}
+
+// The length of the points area.
+fn points_length(query: Query, limits: Limits) -> usize
+    requires { ⌜ (windowFits 8192 8192 (query .window) ≡ true) × (limits .results ≤ 32) ⌝ }
+    ensures { λ r. ⌜ (r ≡ pointsRoom query limits) × (r ≤ 2000000) ⌝ }
+{
+    let allow = query.allow;
+    match allow {
+        Allow::Nobody => 0,
+        Allow::Bounded(_) => pairs(
+            index(limits.results) * (rects::width(query.window) * rects::height(query.window)),
+        ),
+    }
+}
+
+// The record with its unused entries zero.
+fn tidied(rec: Record) -> Record
+    requires { ⌜ (rec .layouts ≤ 32) × (rec .lists ≤ 6) ⌝ }
+    ensures { λ r. ⌜ (r ≡ tidy rec) × Sized rec ⌝ }
+{
+    let xs = rec.routes;
+    let ls = rec.lengths;
+    let ns = rec.nexts;
+    let routes = cleared_routes(xs, index(rec.layouts));
+    let lengths = cleared_numbers(ls, index(rec.lists));
+    let nexts = cleared_numbers(ns, index(rec.lists));
+    Record {
+        reason: rec.reason,
+        evaluations: rec.evaluations,
+        placements: rec.placements,
+        layouts: rec.layouts,
+        lists: rec.lists,
+        pending: rec.pending,
+        routes: routes,
+        lengths: lengths,
+        nexts: nexts,
+    }
+}
+
+// Clears all that is unused: the search that the record and the areas hold, laid back.
+pub fn clear_unused(
+    query: Query,
+    limits: Limits,
+    rec: Record,
+    lists: &mut [u16],
+    visited: &mut [u16],
+    layouts: &mut [u16],
+    points: &mut [u32],
+) -> Record
+    requires { ⌜ Used query limits rec (now lists) (now visited) (now layouts) (now points) ⌝ }
+    ensures { λ r. ⌜ ((i : Inputs) → Passing i query limits rec (storeIn (now (lists .entry)) (now (visited .entry)) (now (layouts .entry)) (now (points .entry))) → LaidBack i limits rec (storeIn (now (lists .entry)) (now (visited .entry)) (now (layouts .entry)) (now (points .entry))) r (storeIn (now (lists .exit)) (now (visited .exit)) (now (layouts .exit)) (now (points .exit)))) ⌝ }
+{
+    clear_lists(lists, rec);
+    clear_rows(visited, index(rec.evaluations), 7 * index(limits.states));
+    clear_rows(layouts, index(rec.layouts), 7 * index(limits.results));
+    let routes = rec.routes;
+    let used = 2 * kept_points(routes, index(rec.layouts));
+    clear_points(points, used, points_length(query, limits) - used);
+    tidied(rec)
+}

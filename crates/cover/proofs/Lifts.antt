@@ -1,0 +1,63 @@
+-- A set without its member number k: by members taken in turn, and as the set from which that member is lifted.
+use Prim.Native.Nat.{ℕ, zero, suc, _+_, _≤_, _<_}
+use mathlib.Core.Path.{_≡_, refl, sym, ap, _∙_}
+use mathlib.Core.Bool.{Bool, true, false, not, _&&_, _||_}
+use mathlib.Core.List.{List, [], _∷_, _++_, List·Memᴰ, List·Memᴰ·head, List·Memᴰ·tail}
+use native.Mathlib.Omega.{arith}
+use native.Mathlib.Nat.{not-suc-le-zero, le-of-suc-le-suc}
+use lib.Dec.{eqb, ltb}
+use lib.ListN.{length, getD, take}
+use lib.Seq.{take-suc}
+use borrow.Author.Tests.{ltb-true, eq-eqb, ne-eqb}
+use Rattle.laws.specs.Lists.{anyOf, allOf, select, ascends, without}
+use Rattle.laws.proofs.Members.{both, all-member, getD-member}
+use Rattle.cover.specs.Cover.{lift}
+
+pub lift-none : (k : ℕ) → lift k [] ≡ []
+unfolding lift
+lift-none k = refl
+
+-- member number k taken, the rest stays
+pub lift-skip : (k : ℕ) (s : List ℕ) → lift k (take (suc k) s) ≡ lift k (take k s)
+unfolding lift
+lift-skip zero [] = refl
+lift-skip (suc k) [] = refl
+lift-skip zero (x ∷ s) = refl
+lift-skip (suc k) (x ∷ s) = ap (λ (l : List ℕ). x ∷ l) (lift-skip k s)
+
+-- any other member joins
+pub lift-more : (k j : ℕ) (s : List ℕ) → (j ≡ k → ⊥) → j < length s → lift k (take (suc j) s) ≡ lift k (take j s) ++ (getD s j 0 ∷ [])
+unfolding lift
+lift-more k j [] n h = absurd (not-suc-le-zero h)
+lift-more zero zero (x ∷ s) n h = absurd (n refl)
+lift-more zero (suc j) (x ∷ s) n h = take-suc s j 0 (le-of-suc-le-suc h)
+lift-more (suc k) zero (x ∷ s) n h = refl
+lift-more (suc k) (suc j) (x ∷ s) n h = ap (λ (l : List ℕ). x ∷ l) (lift-more k j s (λ e. n (ap suc e)) (le-of-suc-le-suc h))
+
+-- with no such member the set stays whole
+pub lift-past : (k : ℕ) (s : List ℕ) → length s ≤ k → lift k s ≡ s
+unfolding lift
+lift-past k [] h = refl
+lift-past zero (x ∷ s) h = absurd (not-suc-le-zero h)
+lift-past (suc k) (x ∷ s) h = ap (λ (l : List ℕ). x ∷ l) (lift-past k s (le-of-suc-le-suc h))
+
+-- nothing is lifted out of a list that lacks it
+without-none : (i : ℕ) (s : List ℕ) → ((j : ℕ) → List·Memᴰ j s → j ≡ i → ⊥) → without i s ≡ s
+unfolding without select
+without-none i [] h = refl
+without-none i (x ∷ s) h =
+    rw (select, ne-eqb x i (h x (List·Memᴰ·head refl))) (ap (λ (l : List ℕ). x ∷ l) (without-none i s (λ j m. h j (List·Memᴰ·tail m))))
+
+-- in an ascending set member number k is found by its index
+pub lift-without : (k : ℕ) (s : List ℕ) → ascends s ≡ true → k < length s → lift k s ≡ without (getD s k 0) s
+unfolding lift without select ascends
+lift-without k [] a h = absurd (not-suc-le-zero h)
+lift-without zero (x ∷ s) a h =
+    let b = both (allOf (λ (y : ℕ). ltb x y) s) (ascends s) a in
+    rw (select, eq-eqb x x refl)
+    (sym (without-none x s (λ j m e. let q = ltb-true x j (all-member (λ (y : ℕ). ltb x y) s (b .0) j m) in absurd (omega arith))))
+lift-without (suc k) (x ∷ s) a h =
+    let b = both (allOf (λ (y : ℕ). ltb x y) s) (ascends s) a in
+    let q = ltb-true x (getD s k 0) (all-member (λ (y : ℕ). ltb x y) s (b .0) (getD s k 0) (getD-member s k 0 (le-of-suc-le-suc h))) in
+    rw (select, ne-eqb x (getD s k 0) (λ e. absurd (omega arith)))
+    (ap (λ (l : List ℕ). x ∷ l) (lift-without k s (b .1) (le-of-suc-le-suc h)))

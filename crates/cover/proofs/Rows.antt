@@ -1,0 +1,187 @@
+-- A span laid over a map, row by row: columns l up to r of row y are an interval of the map's entries.
+use mathlib.Core.Path.{_≡_, refl, sym, ap, ap₂, _∙_, subst}
+use mathlib.Core.Bool.{Bool, true, false, cond, _&&_, _||_, and-false}
+use mathlib.Core.Logic.{_⊎_, inl, inr, ⊎-elim}
+use mathlib.Core.List.{List, _++_}
+use Prim.Native.Nat.{ℕ, suc, _+_, _-_, _*_, _/_, _%_, _≤_, _<_}
+use native.Mathlib.Nat.{mod-lt, div-add-mod', mul-le-mul-right}
+use native.Mathlib.Omega.{arith}
+use lib.Dec.{ltb, leb, eqb}
+use lib.ListN.{length, getD, take, drop, replicate, length-drop, length-replicate, getD-replicate, List·getD-append}
+use lib.Seq.{length-take-le, getD-take, getD-drop, getD-append-add}
+use borrow.Rule.Slice.PartMut.{same-len-mid}
+use borrow.Author.Tests.{ltb-true, ltb-false, leb-true, leb-false, eqb-true, eqb-false, lt-ltb, le-ltb, le-leb, lt-leb}
+use Rattle.laws.proofs.Ints.{leb-iff}
+use Rattle.rects.specs.declared.Span.{Span}
+use Rattle.rects.specs.Spans.{inSpan}
+use Rattle.cover.specs.Cover.{Covered}
+
+abbrev pub inB : ℕ → ℕ → ℕ → Bool
+inB a b i = leb a i && ltb i b
+
+and-by : (p q u v t : Bool) → (t ≡ true → (p && q) ≡ (u && v)) → (t ≡ false → (p && q) ≡ false) → (p && q) ≡ ((u && v) && t)
+and-by p q true true true f g = f refl
+and-by p q true true false f g = g refl
+and-by p q true false true f g = f refl
+and-by p q true false false f g = g refl
+and-by p q false v true f g = f refl
+and-by p q false v false f g = g refl
+
+no-in : (a b i : ℕ) → ((i < a) ⊎ (b ≤ i)) → inB a b i ≡ false
+no-in a b i (inl h) = ap (λ (t : Bool). t && ltb i b) (lt-leb a i h)
+no-in a b i (inr h) = ap (λ (t : Bool). leb a i && t) (le-ltb i b h) ∙ and-false (leb a i)
+
+apart : (y c : ℕ) → (y ≡ c → ⊥) → (suc y ≤ c) ⊎ (suc c ≤ y)
+apart y c h = by (ltb y c) refl
+  where
+    by : (t : Bool) → ltb y c ≡ t → (suc y ≤ c) ⊎ (suc c ≤ y)
+    by true e = inl (ltb-true y c e)
+    by false e = inr (omega (arith, ltb-false y c e))
+
+-- i is (i / s) * s + i % s
+flat : (s c l r i : ℕ) → 0 < s → r ≤ s → inB (c * s + l) (c * s + r) i ≡ (inB l r (i % s) && eqb (i / s) c)
+flat s c l r i hs hr =
+    and-by (leb (c * s + l) i) (ltb i (c * s + r)) (leb l (i % s)) (ltb (i % s) r) (eqb (i / s) c)
+    (λ e.
+    let k : i / s ≡ c = eqb-true (i / s) c e in
+    let d : c * s + i % s ≡ i = subst (λ (y : ℕ). y * s + i % s ≡ i) k (div-add-mod' i s) in
+    ap₂ _&&_
+    (leb-iff (c * s + l) i l (i % s) (λ h. omega arith) (λ h. omega arith))
+    (leb-iff (suc i) (c * s + r) (suc (i % s)) r (λ h. omega arith) (λ h. omega arith)))
+    (λ e.
+    no-in (c * s + l) (c * s + r) i
+    (⊎-elim
+    (λ h. inl (omega (arith, div-add-mod' i s, mod-lt i hs, mul-le-mul-right s h)))
+    (λ h. inr (omega (arith, div-add-mod' i s, mod-lt i hs, mul-le-mul-right s h)))
+    (apart (i / s) c (eqb-false (i / s) c e))))
+
+-- ---- a part of a list put back
+abbrev putBack : {A : Type 0} → ℕ → ℕ → List A → List A → List A
+putBack a k xs ys = take a xs ++ (ys ++ drop k (drop a xs))
+
+module _ {A : Type 0} (d : A) (xs ys : List A) (a k : ℕ) (n : a + k ≤ length xs) (m : length ys ≡ k) where
+  head-length : length (take a xs) ≡ a
+  head-length = length-take-le a xs (omega arith)
+
+  put-before : (i : ℕ) → i < a → getD (putBack a k xs ys) i d ≡ getD xs i d
+  put-before i h = List·getD-append (take a xs) (ys ++ drop k (drop a xs)) d i (omega (arith, head-length)) ∙ getD-take a xs i d h
+
+  put-rest : (j : ℕ) → getD (putBack a k xs ys) (a + j) d ≡ getD (ys ++ drop k (drop a xs)) j d
+  put-rest j = subst (λ (q : ℕ). getD (putBack a k xs ys) (q + j) d ≡ getD (ys ++ drop k (drop a xs)) j d) head-length (getD-append-add (take a xs) (ys ++ drop k (drop a xs)) j d)
+
+  put-in : (i : ℕ) → a ≤ i → i < a + k → getD (putBack a k xs ys) i d ≡ getD ys (i - a) d
+  put-in i h l =
+      let e : a + (i - a) ≡ i = omega arith in
+      subst (λ (q : ℕ). getD (putBack a k xs ys) q d ≡ getD ys (i - a) d) e (put-rest (i - a) ∙ List·getD-append ys (drop k (drop a xs)) d (i - a) (omega arith))
+
+  put-after : (i : ℕ) → a + k ≤ i → getD (putBack a k xs ys) i d ≡ getD xs i d
+  put-after i h =
+      let e : a + (k + (i - a - k)) ≡ i = omega arith in
+      subst (λ (q : ℕ). getD (putBack a k xs ys) q d ≡ getD xs q d) e
+      (put-rest (k + (i - a - k))
+      ∙ subst (λ (q : ℕ). getD (ys ++ drop k (drop a xs)) (q + (i - a - k)) d ≡ getD xs (a + (k + (i - a - k))) d) m
+      (getD-append-add ys (drop k (drop a xs)) (i - a - k) d ∙ getD-drop k (drop a xs) (i - a - k) d ∙ getD-drop a xs (k + (i - a - k)) d))
+
+  put-by : (i : ℕ) (v : A) (s t : Bool) → leb a i ≡ s → ltb i (a + k) ≡ t → ((j : ℕ) → j < k → getD ys j d ≡ v) → getD (putBack a k xs ys) i d ≡ cond (s && t) v (getD xs i d)
+  put-by i v true true e f g =
+      let p = leb-true a i e in
+      let q = ltb-true i (a + k) f in
+      put-in i p q ∙ g (i - a) (omega arith)
+  put-by i v true false e f g = put-after i (ltb-false i (a + k) f)
+  put-by i v false t e f g = put-before i (leb-false a i e)
+
+  -- the part holds v throughout
+  put-fill : (i : ℕ) (v : A) → ((j : ℕ) → j < k → getD ys j d ≡ v) → getD (putBack a k xs ys) i d ≡ cond (inB a (a + k) i) v (getD xs i d)
+  put-fill i v g = put-by i v (leb a i) (ltb i (a + k)) refl refl g
+
+-- ---- one row more
+row-by : (t y j : ℕ) (q : Bool) → eqb j y ≡ q → t ≤ y → inB t (y + 1) j ≡ (q || inB t y j)
+row-by t y j true e h =
+    let k = eqb-true j y e in
+    ap₂ _&&_ (le-leb t j (omega arith)) (lt-ltb j (y + 1) (omega arith))
+row-by t y j false e h =
+    let k = eqb-false j y e in
+    ap (λ (u : Bool). leb t j && u) (leb-iff (suc j) (y + 1) (suc j) y (λ u. omega arith) (λ u. omega arith))
+
+merge : (p q r : Bool) (v z : ℕ) → cond (p && q) v (cond (p && r) v z) ≡ cond (p && (q || r)) v z
+merge true true r v z = refl
+merge true false r v z = refl
+merge false q r v z = refl
+
+no-rows : (p : Bool) (a b : ℕ) (j v z : ℕ) → b ≤ a → cond (p && inB a b j) v z ≡ z
+no-rows true a b j v z h = by (leb a j) (ltb j b) refl refl
+  where
+    by : (s u : Bool) → leb a j ≡ s → ltb j b ≡ u → cond (s && u) v z ≡ z
+    by true true e f = absurd (omega (arith, leb-true a j e, ltb-true j b f))
+    by true false e f = refl
+    by false u e f = refl
+no-rows false a b j v z h = refl
+
+-- the rows from `top` up to y of the span are laid
+pub record Rows (cells : List ℕ) (width left right top : ℕ) (cells′ : List ℕ) (y : ℕ) : Type 0 where
+  pub from : top ≤ y
+  pub size : length cells′ ≡ length cells
+  pub at : (c : ℕ) → getD cells′ c 0 ≡ cond (inB left right (c % width) && inB top y (c / width)) 1 (getD cells c 0)
+
+pub rows-start : (cells : List ℕ) (width left right top : ℕ) → Rows cells width left right top cells top
+rows-start cells width left right top = record {
+  from = omega arith;
+  size = refl;
+  at = λ c. sym (no-rows (inB left right (c % width)) top top (c / width) 1 (getD cells c 0) (omega arith));
+}
+
+module _ (cells : List ℕ) (width left right top bottom : ℕ) (cells′ : List ℕ) (y : ℕ) (hr : right ≤ width) (hw : 0 < width) (hb : bottom * width ≤ length cells) (hl : left < right) (hy : y < bottom) (t : Rows cells width left right top cells′ y) where
+  -- where the row's part begins and ends
+  pub row-ends : (y * width + left ≤ y * width + right) × (y * width + right ≤ length cells′)
+  row-ends = (omega arith, omega (arith, t .size, mul-le-mul-right width hy))
+
+  abbrev row : List ℕ
+  row = take (y * width + right - (y * width + left)) (drop (y * width + left) cells′)
+
+  row-length : length row ≡ right - left
+  row-length =
+      length-take-le (y * width + right - (y * width + left)) (drop (y * width + left) cells′) (omega (arith, length-drop (y * width + left) cells′, row-ends)) ∙ omega arith
+
+  pub rows-more : (ys : List ℕ) → ys ≡ replicate (length row) 1 → Rows cells width left right top (putBack (y * width + left) (y * width + right - (y * width + left)) cells′ ys) (y + 1)
+  rows-more ys f = record {
+    from = omega (arith, t .from);
+    size = same-len-mid (y * width + left) (y * width + right - (y * width + left)) cells′ ys long ∙ t .size;
+    at = λ i.
+        put-fill 0 cells′ ys (y * width + left) (y * width + right - (y * width + left)) (omega (arith, row-ends)) (long ∙ row-length ∙ omega arith) i 1
+        (λ j h. rw f (getD-replicate (length row) j 1 0 (omega (arith, row-length))))
+        ∙ rw (e, flat width y left right i hw hr, t .at i, row-by top y (i / width) (eqb (i / width) y) refl (t .from))
+        (merge (inB left right (i % width)) (eqb (i / width) y) (inB top y (i / width)) 1 (getD cells i 0));
+  }
+    where
+      long : length ys ≡ length row
+      long = rw f (length-replicate (length row) 1)
+
+      e : (y * width + left) + (y * width + right - (y * width + left)) ≡ y * width + right
+      e = omega arith
+
+-- all rows laid
+pub rows-all : (cells : List ℕ) (width : ℕ) (p : Span) (cells′ : List ℕ) (y : ℕ) → y ≡ p .bottom → Rows cells width (p .left) (p .right) (p .top) cells′ y → Covered width p cells cells′
+unfolding inSpan
+rows-all cells width p cells′ y e t = record {
+  size = t .size;
+  at = λ c. subst (λ (b : ℕ). getD cells′ c 0 ≡ cond (inB (p .left) (p .right) (c % width) && inB (p .top) b (c / width)) 1 (getD cells c 0)) e (t .at c);
+}
+
+-- a span that is empty or inverted covers nothing
+no-columns : (a b j : ℕ) (q : Bool) (v z : ℕ) → b ≤ a → cond (inB a b j && q) v z ≡ z
+no-columns a b j q v z h = by (leb a j) (ltb j b) refl refl
+  where
+    by : (s u : Bool) → leb a j ≡ s → ltb j b ≡ u → cond (s && u && q) v z ≡ z
+    by true true e f = absurd (omega (arith, leb-true a j e, ltb-true j b f))
+    by true false e f = refl
+    by false u e f = refl
+
+pub none-across : (cells : List ℕ) (width : ℕ) (p : Span) → p .right ≤ p .left → Covered width p cells cells
+unfolding inSpan
+none-across cells width p h =
+    record { size = refl; at = λ c. sym (no-columns (p .left) (p .right) (c % width) (inB (p .top) (p .bottom) (c / width)) 1 (getD cells c 0) h) }
+
+pub none-down : (cells : List ℕ) (width : ℕ) (p : Span) → p .bottom ≤ p .top → Covered width p cells cells
+unfolding inSpan
+none-down cells width p h =
+    record { size = refl; at = λ c. sym (no-rows (inB (p .left) (p .right) (c % width)) (p .top) (p .bottom) (c / width) 1 (getD cells c 0) h) }

@@ -1,0 +1,115 @@
+-- `cover::blocked_for` meets its contract: the map is that of the members passed, without the one lifted. The measure is the number of members left.
+use borrow.Author.Needs.{needs}
+use mathlib.Core.Path.{_≡_, refl, sym, ap, _∙_}
+use mathlib.Core.List.{List, []}
+use Prim.Native.Nat.{ℕ, suc, _+_, _-_, _*_, _≤_}
+use native.Mathlib.Numerals.{add-one}
+use native.Mathlib.Omega.{arith}
+use lib.IntN.{ℤ}
+use lib.ListN.{length, getD, take}
+use lib.Seq.{take-all}
+use Rattle.laws.proofs.Members.{getD-member}
+use Rattle.model.specs.declared.Rect.{Rect}
+use Rattle.model.specs.declared.Bounds.{Bounds}
+use Rattle.rects.specs.Windows.{centres}
+use Rattle.layouts.specs.Flat.{rectAt}
+use Rattle.cover.specs.Cover.{coverOf, moverIn, lift, Stamped}
+use Rattle.cover.proofs.Lifts.{lift-none, lift-skip, lift-more}
+use Rattle.cover.proofs.Covers.{cover-none, cover-more, length-cover}
+use Rattle.cover.proofs.blocked_for.Statement.{statement}
+use Rattle.cover.proofs.blocked_for.Tie as tie
+
+-- j members are passed
+record Passed (w : Rect) (edges : List ℤ) (m : Bounds) (base set : List ℕ) (k : ℕ) (cells : List ℕ) (j : ℕ) : Type 0 where
+  upto : j ≤ length set
+  is : cells ≡ coverOf (moverIn w edges m base) (centres w) (lift k (take j set))
+
+module _ {w : Rect} {edges : List ℤ} {m : Bounds} {base set : List ℕ} {k : ℕ} {cells : List ℕ} {j : ℕ} (p : Passed w edges m base set k cells j) where
+  long : length cells ≡ centres w
+  long = ap (λ (l : List ℕ). length l) (p .is) ∙ length-cover (moverIn w edges m base) (centres w) (lift k (take j set))
+
+  skipped : suc j ≤ length set → j ≡ k → Passed w edges m base set k cells (j + 1)
+  skipped h e = record {
+    upto = omega arith;
+    is = p .is ∙ ap (λ (s : List ℕ). coverOf (moverIn w edges m base) (centres w) s) (rw (add-one, e) (sym (lift-skip k set)));
+  }
+
+  laid : suc j ≤ length set → (j ≡ k → ⊥) → (r : Rect) → r ≡ rectAt edges (8 * getD set j 0 + 4) → (cells′ : List ℕ) → Stamped w r m cells cells′ → Passed w edges m base set k cells′ (j + 1)
+  laid h ne r q cells′ t = record {
+    upto = omega arith;
+    is =
+        cover-more w edges m base (lift k (take j set)) (getD set j 0) r cells cells′ q (p .is) t
+        ∙ ap (λ (s : List ℕ). coverOf (moverIn w edges m base) (centres w) s) (rw add-one (sym (lift-more k j set ne h)));
+  }
+
+abbrev Inv-loop : tie.InvT-loop
+Inv-loop base window edges mover set lifted map₀ j₀ map j = Passed window edges mover base set lifted map j
+
+abbrev μ-loop : tie.MeasureT-loop
+μ-loop base window edges mover set lifted map₀ j₀ map j = length set - j
+
+copy-base-requires : tie.Need-copy-base-requires Inv-loop μ-loop
+copy-base-requires c κs = c .before .before .before .before .pre .1 .0
+
+loop-holds : tie.Need-loop-holds Inv-loop μ-loop
+loop-holds c =
+    let a = c .before .before .before .before .before .before .before .args in
+    let p = c .before .before .before .before .before .before .before .pre in
+    record {
+      upto = omega arith;
+      is =
+          rw (p .0 .bytes) at (c .before .before .copy-base .ensures)
+          ∙ cover-none (a .window) (a .edges .now) (a .mover) (a .base .now) (centres (a .window)) (a .map .now) (p .0 .bytes)
+          ∙ ap (λ (s : List ℕ). coverOf (moverIn (a .window) (a .edges .now) (a .mover) (a .base .now)) (centres (a .window)) s) (sym (lift-none (a .lifted)));
+    }
+
+add-j : tie.Need-add-j Inv-loop μ-loop
+add-j c = search needs
+
+loop-less : tie.Need-loop-less Inv-loop μ-loop
+loop-less c = search needs
+
+loop-again : tie.Need-loop-again Inv-loop μ-loop
+loop-again c = skipped (c .before .before .loop .inv) (c .before .loop-test .taken) (c .if1 .taken)
+
+mul-index : tie.Need-mul-index Inv-loop μ-loop
+mul-index c = search needs
+
+shared-slice-read-index : tie.Need-shared-slice-read-index Inv-loop μ-loop
+shared-slice-read-index c = search needs
+
+index-requires : tie.Need-index-requires Inv-loop μ-loop
+index-requires c κs = search needs
+
+collision-at-requires : tie.Need-collision-at-requires Inv-loop μ-loop
+collision-at-requires c κs =
+    let s = c .before .before .before .before .before .before .before .before .before .before .before .before .args .set .now in
+    let j = c .before .before .before .before .loop .j in
+    omega (arith, c .index .ensures, c .before .before .before .before .before .before .before .before .before .before .before .before .pre .1 .1 .each (getD s j 0) (getD-member s j 0 (c .before .before .before .loop-test .taken)))
+
+stamp-collision-into-requires : tie.Need-stamp-collision-into-requires Inv-loop μ-loop
+stamp-collision-into-requires c κs = record { some = c .before .before .before .before .before .before .before .before .before .before .before .before .before .before .pre .0 .some; slim = c .before .before .before .before .before .before .before .before .before .before .before .before .before .before .pre .0 .slim; bytes = long (c .before .before .before .before .before .before .loop .inv) }
+
+loop-less-2 : tie.Need-loop-less-2 Inv-loop μ-loop
+loop-less-2 c = omega (arith, c .before .before .before .before .before .before .before .before .loop-test .taken)
+
+loop-again-2 : tie.Need-loop-again-2 Inv-loop μ-loop
+loop-again-2 c =
+    laid (c .before .before .before .before .before .before .before .before .before .loop .inv) (c .before .before .before .before .before .before .before .before .loop-test .taken) (c .before .before .before .before .before .before .before .if1 .left) (c .before .before .before .before .collision-at .result)
+    (rw (c .before .before .before .before .before .index .ensures) at (c .before .before .before .before .collision-at .ensures)) (c .before .before .stamp-collision-into .last .0) (c .before .before .stamp-collision-into .ensures)
+
+same-length : tie.Need-same-length Inv-loop μ-loop
+same-length c = long (c .before .loop .inv) ∙ sym (c .before .before .before .before .before .before .before .before .before .pre .0 .bytes)
+
+returns : tie.Need-returns Inv-loop μ-loop
+returns c =
+    let a = c .before .before .before .before .before .before .before .before .before .args in
+    c .before .loop .inv .is
+    ∙ ap (λ (s : List ℕ). coverOf (moverIn (a .window) (a .edges .now) (a .mover) (a .base .now)) (centres (a .window)) (lift (a .lifted) s))
+    (take-all (c .before .loop .j) (a .set .now) (c .loop-test .left))
+
+pub blocked-for-spec : {M : Type 1} → statement M
+blocked-for-spec =
+    tie.close
+    (tie.spec Inv-loop μ-loop copy-base-requires loop-holds add-j loop-less loop-again mul-index shared-slice-read-index index-requires collision-at-requires
+    stamp-collision-into-requires loop-less-2 loop-again-2 same-length returns)

@@ -1,0 +1,181 @@
+-- What an evaluation comes to, case by case, and how the answers and areas of the code tell it.
+use Prim.Native.Nat.{ℕ, _<_}
+use mathlib.Core.Path.{_≡_, refl, sym, ap, ap₂, _∙_, subst}
+use mathlib.Core.Bool.{Bool, true, false, not, _&&_, and-false, true≢false}
+use mathlib.Core.Option.{Option, none, some, Option·none-ne-some}
+use mathlib.Core.List.{List, [], _∷_, _++_}
+use native.Mathlib.Omega.{arith}
+use lib.Dec.{ltb}
+use lib.IntN.{ℤ}
+use lib.ListN.{length, take, drop}
+use lib.Seq.{take-at}
+use Rattle.laws.specs.Lists.{isSome}
+use Rattle.laws.proofs.Members.{either}
+use Rattle.model.specs.declared.Rect.{Rect}
+use Rattle.model.specs.declared.Bounds.{Bounds}
+use Rattle.model.specs.declared.Allow.{Allow}
+use Rattle.model.specs.declared.Allow.the-variants.{Nobody, Bounded}
+use Rattle.model.specs.declared.Query.{Query}
+use Rattle.cover.specs.Cover.{moverIn, lift, Named}
+use Rattle.cover.proofs.Lifts.{lift-past}
+use Rattle.routes.specs.Edges.{Step}
+use Rattle.routes.proofs.RouteTheorem.{route-blocked}
+use Rattle.layouts.specs.Boards.{Mover, Board, leavesOpen, openEnds, routePast}
+use Rattle.layouts.specs.Explore.{Outcome, Nothing, Extend, Wall, extensions, isMinimalBlock, allowedRoute, wallBy, explore}
+use Rattle.route.specs.Results.{Routed, pointsOf, laidInto}
+use Rattle.extend.specs.Join.{Listed}
+use Rattle.explore.specs.declared.Explored as answer
+use Rattle.explore.specs.declared.Passage as passage
+use Rattle.explore.specs.Ready.{AllowReady, Moving, passed, minimal, allowedPast, allowIn, flatBoard}
+use Rattle.explore.specs.Evaluation.{outcomeOf, numberOf, sizeOf, listAfter, pathAfter, Evaluated, passageOf, pointsIn, Allowed}
+
+-- ---- routes laid into a path
+pub routed-none : (o : Option (List ℕ)) (path path′ : List ℕ) → Routed o path path′ 0 → o ≡ none
+unfolding isSome
+routed-none none path path′ t = refl
+routed-none (some p) path path′ t = absurd (true≢false (t .exists))
+
+pub record Laid (o : Option (List ℕ)) (path′ : List ℕ) (r : ℕ) : Type 0 where
+  pub points : List ℕ
+  pub is : o ≡ some points
+  pub number : r ≡ length points
+  pub first : take r path′ ≡ points
+
+pub routed-some : (o : Option (List ℕ)) (path path′ : List ℕ) (r : ℕ) → (r ≡ 0 → ⊥) → Routed o path path′ r → Laid o path′ r
+unfolding pointsOf laidInto
+routed-some none path path′ r n t = absurd (n (t .count))
+routed-some (some p) path path′ r n t = record {
+  points = p;
+  is = refl;
+  number = t .count;
+  first = ap₂ take (t .count) (t .points) ∙ take-at p (drop (length p) path) (length p) refl;
+}
+
+pub allowed-none : (path : List ℕ) → Allowed (some []) (passage.the-variants.Free 0) path path
+unfolding passageOf pointsIn pointsOf laidInto
+allowed-none path = record { is = refl; number = refl; laid = refl }
+
+pub allowed-shut : (o : Option (List ℕ)) (path path′ : List ℕ) (r : ℕ) → r ≡ 0 → Routed o path path′ r → Allowed o passage.the-variants.Shut path path′
+unfolding passageOf pointsIn
+allowed-shut o path path′ r e t = record { is = routed-none o path path′ (rw e at t); number = sym e ∙ t .count; laid = t .points }
+
+pub allowed-free : (o : Option (List ℕ)) (path path′ : List ℕ) (r : ℕ) → (r ≡ 0 → ⊥) → Routed o path path′ r → Allowed o (passage.the-variants.Free r) path path′
+unfolding passageOf pointsIn
+allowed-free o path path′ r n t =
+    let l = routed-some o path path′ r n t in
+    record { is = l .is ∙ ap some (sym (l .first)); number = t .count; laid = t .points }
+
+-- ---- the evaluation, case by case
+module _ (g : Board) (s : List ℕ) where
+  pub explore-blocked : openEnds g (g .block) s ≡ false → explore g s ≡ Nothing
+  unfolding explore
+  explore-blocked e = rw (explore, e)
+
+  pub explore-spare : openEnds g (g .block) s ≡ true → routePast g (g .block) s ≡ none → isMinimalBlock g s ≡ false → explore g s ≡ Nothing
+  unfolding explore
+  explore-spare e n f = rw (explore, e, n, f)
+
+  pub explore-wall : openEnds g (g .block) s ≡ true → routePast g (g .block) s ≡ none → isMinimalBlock g s ≡ true → explore g s ≡ wallBy g (allowedRoute g s)
+  unfolding explore
+  explore-wall e n f = rw (explore, e, n, f)
+
+  pub explore-route : (r : List ℕ) → routePast g (g .block) s ≡ some r → explore g s ≡ Extend (extensions g s r)
+  unfolding explore routePast openEnds
+  explore-route r e =
+      either (leavesOpen (g .block) s (g .start) && leavesOpen (g .block) s (g .end))
+      (λ o. rw (explore, o, e))
+      (λ n. absurd (Option·none-ne-some r (sym (route-blocked (g .edges) (g .nodes) (leavesOpen (g .block) s) (g .start) (g .end) n) ∙ e)))
+
+-- ---- the answers
+pub eval-nothing : (o : Outcome ℕ) (list path path′ : List ℕ) → o ≡ Nothing → path′ ≡ path → Evaluated o answer.the-variants.Nothing list list path path′
+unfolding outcomeOf numberOf sizeOf listAfter pathAfter
+eval-nothing o list path path′ e p = rw e (record { is = refl; number = refl; listed = refl; laid = p })
+
+-- a wall where the allowed mover passes, nothing where it does not
+unfoldable pub wallAnswer : passage.Passage → answer.Explored
+wallAnswer passage.the-variants.Shut = answer.the-variants.Nothing
+wallAnswer (passage.the-variants.Free k) = answer.the-variants.Wall k
+
+pub eval-wall : (g : Board) (o : Outcome ℕ) (a : Option (List ℕ)) (r : passage.Passage) (list path path′ : List ℕ) → o ≡ wallBy g a → Allowed a r path path′
+    → Evaluated o (wallAnswer r) list list path path′
+unfolding wallAnswer outcomeOf numberOf sizeOf listAfter pathAfter passageOf pointsIn pointsOf laidInto wallBy
+eval-wall g o a passage.the-variants.Shut list path path′ e t =
+    let n = e ∙ ap (wallBy g) (t .is) in
+    rw n (record { is = refl; number = refl; listed = refl; laid = t .laid ∙ ap (λ (x : Option (List ℕ)). laidInto x path) (t .is) })
+eval-wall g o a (passage.the-variants.Free k) list path path′ e t =
+    let n = e ∙ ap (wallBy g) (t .is) in
+    rw n (record {
+      is = refl;
+      number = t .number ∙ ap pointsOf (t .is);
+      listed = refl;
+      laid = t .laid ∙ ap (λ (x : Option (List ℕ)). laidInto x path) (t .is);
+    })
+
+pub eval-extend : (o : Outcome ℕ) (es list list′ path path′ : List ℕ) (k : ℕ) → o ≡ Extend es → Listed es list list′ k → path′ ≡ path
+    → Evaluated o (answer.the-variants.Extend k) list list′ path path′
+unfolding outcomeOf numberOf sizeOf listAfter pathAfter
+eval-extend o es list list′ path path′ k e l p =
+    rw e (record {
+      is = ap Extend (sym (ap (take k) (l .list) ∙ take-at es (drop k list) k (sym (l .count))));
+      number = l .count;
+      listed = l .list ∙ ap (λ (n : ℕ). es ++ drop n list) (l .count);
+      laid = p;
+    })
+
+-- ---- over placements lent flat
+module _ (q : Query) (start end n : ℕ) (groups numbers : List ℕ) (edges : List ℤ) (blockBase allowBase : List ℕ) (steps : List Step) where
+  abbrev board : Board
+  board = flatBoard q start end n groups numbers edges blockBase allowBase steps
+
+  pub flat-past : (m : Mover) (s : List ℕ) → routePast board m s ≡ passed (q .window) steps start end m s
+  unfolding routePast flatBoard passed
+  flat-past m s = refl
+
+  pub flat-minimal : (s : List ℕ) → isMinimalBlock board s ≡ minimal (q .window) steps start end (board .block) s
+  unfolding isMinimalBlock routePast flatBoard minimal passed
+  flat-minimal s = refl
+
+  pub flat-allowed : (s : List ℕ) → allowedRoute board s ≡ allowedPast (q .window) steps start end (board .allow) s
+  unfolding allowedRoute routePast flatBoard allowedPast passed
+  flat-allowed s = by (board .allow)
+    where
+      by : (a : Option Mover) → elim a [ none ↦ some [] | some m ↦ passed (q .window) steps start end m s ] ≡ allowedPast (q .window) steps start end a s
+      by none = refl
+      by (some m) = refl
+
+  pub flat-start : (s : List ℕ) → leavesOpen (board .block) s start ≡ false → openEnds board (board .block) s ≡ false
+  unfolding openEnds flatBoard
+  flat-start s e = rw e
+
+  pub flat-end : (s : List ℕ) → leavesOpen (board .block) s end ≡ false → openEnds board (board .block) s ≡ false
+  unfolding openEnds flatBoard
+  flat-end s e = rw e (and-false (leavesOpen (board .block) s start))
+
+  pub flat-open : (s : List ℕ) → leavesOpen (board .block) s start ≡ true → leavesOpen (board .block) s end ≡ true → openEnds board (board .block) s ≡ true
+  unfolding openEnds flatBoard
+  flat-open s e f = rw (e, f)
+
+  -- where no route is left and every lift gives one, the allowed mover decides
+  pub eval-walled : (s : List ℕ) → leavesOpen (board .block) s start ≡ true → leavesOpen (board .block) s end ≡ true
+      → passed (q .window) steps start end (board .block) s ≡ none → minimal (q .window) steps start end (board .block) s ≡ true
+      → (r : passage.Passage) (x : answer.Explored) → wallAnswer r ≡ x → (list : List ℕ) {path path₁ path₂ : List ℕ} → path₁ ≡ path
+      → Allowed (allowedPast (q .window) steps start end (board .allow) s) r path₁ path₂ → Evaluated (explore board s) x list list path path₂
+  eval-walled s a b n t r x e list {path} {path₁} {path₂} k w =
+      subst (λ (y : answer.Explored). Evaluated (explore board s) y list list path path₂) e
+      (eval-wall board (explore board s) (allowedPast (q .window) steps start end (board .allow) s) r list path path₂
+      (explore-wall board s (flat-open s a b) (flat-past (board .block) s ∙ n) (flat-minimal s ∙ t) ∙ ap (wallBy board) (flat-allowed s))
+      (subst (λ (y : List ℕ). Allowed (allowedPast (q .window) steps start end (board .allow) s) r y path₂) k w))
+
+-- ---- the allowed mover
+module _ (w : Rect) (steps : List Step) (start end : ℕ) (edges : List ℤ) (allow : Allow) (base s : List ℕ) where
+  pub allow-nobody : allow ≡ Nobody → (path : List ℕ) → Allowed (allowedPast w steps start end (allowIn w edges allow base) s) (passage.the-variants.Free 0) path path
+  unfolding allowIn allowedPast
+  allow-nobody e path = rw e (allowed-none path)
+
+  pub allow-moving : (m : Bounds) → allow ≡ Bounded m → AllowReady w allow base → Named edges s → Moving w m base edges s
+  unfolding AllowReady
+  allow-moving m e r n = let k = rw e at r in record { slim = k .0; bytes = k .1; named = n }
+
+  pub allow-past : (m : Bounds) → allow ≡ Bounded m → passed w steps start end (moverIn w edges m base) (lift (length s) s) ≡ allowedPast w steps start end (allowIn w edges allow base) s
+  unfolding allowIn allowedPast
+  allow-past m e = rw e (ap (passed w steps start end (moverIn w edges m base)) (lift-past (length s) s (omega arith)))

@@ -1,0 +1,3 @@
+pub mod Touching
+pub mod Along
+pub mod Joining

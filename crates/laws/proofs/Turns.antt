@@ -1,0 +1,102 @@
+-- Tests over lists, taken one element at a time, as loops do; and tests that agree on a list's members.
+use Prim.Native.Nat.{ℕ, zero, suc, _+_, _<_}
+use mathlib.Core.Path.{_≡_, refl, sym, ap, ap₂, _∙_}
+use mathlib.Core.Bool.{Bool, true, false, _&&_, _||_, or-assoc, or-false}
+use mathlib.Core.List.{List, [], _∷_, _++_, append-nil, List·Memᴰ, List·Memᴰ·head, List·Memᴰ·tail}
+use native.Mathlib.Nat.{not-suc-le-zero, le-of-suc-le-suc}
+use native.Mathlib.Omega.{arith}
+use lib.ListN.{length, getD, take}
+use lib.Seq.{take-suc}
+use Rattle.laws.specs.Lists.{anyOf, allOf, select, span, below}
+use Rattle.laws.proofs.Members.{either}
+
+module _ {A : Type 0} (f : A → Bool) where
+  -- ---- any
+  pub any-append : (s t : List A) → anyOf f (s ++ t) ≡ (anyOf f s || anyOf f t)
+  unfolding anyOf
+  any-append [] t = refl
+  any-append (x ∷ s) t = ap (λ (b : Bool). f x || b) (any-append s t) ∙ sym (or-assoc (f x) (anyOf f s) (anyOf f t))
+
+  pub any-snoc : (s : List A) (x : A) → anyOf f (s ++ (x ∷ [])) ≡ (anyOf f s || f x)
+  unfolding anyOf
+  any-snoc s x = any-append s (x ∷ []) ∙ ap (λ (b : Bool). anyOf f s || b) (or-false (f x))
+
+  pub any-more : (s : List A) (j : ℕ) (d : A) → j < length s → f (getD s j d) ≡ false → anyOf f (take j s) ≡ false → anyOf f (take (suc j) s) ≡ false
+  any-more s j d h e k = ap (anyOf f) (take-suc s j d h) ∙ any-snoc (take j s) (getD s j d) ∙ ap₂ _||_ k e
+
+  pub any-hit : (s : List A) (j : ℕ) (d : A) → j < length s → f (getD s j d) ≡ true → anyOf f s ≡ true
+  unfolding anyOf
+  any-hit [] j d l e = absurd (not-suc-le-zero l)
+  any-hit (x ∷ s) zero d l e = rw e
+  any-hit (x ∷ s) (suc j) d l e = either-true (f x) (any-hit s j d (le-of-suc-le-suc l) e)
+    where
+      either-true : (a : Bool) {b : Bool} → b ≡ true → (a || b) ≡ true
+      either-true true h = refl
+      either-true false h = h
+
+  -- ---- all
+  pub all-more : (s : List A) (k : ℕ) (d : A) → k < length s → f (getD s k d) ≡ true → allOf f (take k s) ≡ true → allOf f (take (suc k) s) ≡ true
+  unfolding allOf
+  all-more [] k d l e h = absurd (not-suc-le-zero l)
+  all-more (x ∷ s) zero d l e h = rw e
+  all-more (x ∷ s) (suc k) d l e h = on (f x) (allOf f (take k s)) (allOf f (take (suc k) s)) (all-more s k d (le-of-suc-le-suc l) e) h
+    where
+      on : (a p q : Bool) → (p ≡ true → q ≡ true) → (a && p) ≡ true → (a && q) ≡ true
+      on true p q g h = g h
+      on false p q g h = h
+
+  pub all-miss : (s : List A) (k : ℕ) (d : A) → k < length s → f (getD s k d) ≡ false → allOf f s ≡ false
+  unfolding allOf
+  all-miss [] k d l e = absurd (not-suc-le-zero l)
+  all-miss (x ∷ s) zero d l e = rw e
+  all-miss (x ∷ s) (suc k) d l e = off (f x) (all-miss s k d (le-of-suc-le-suc l) e)
+    where
+      off : (a : Bool) {b : Bool} → b ≡ false → (a && b) ≡ false
+      off true h = h
+      off false h = refl
+
+  -- ---- filter
+  pub filter-append : (s t : List A) → select f (s ++ t) ≡ select f s ++ select f t
+  unfolding select
+  filter-append [] t = refl
+  filter-append (x ∷ s) t =
+      either (f x)
+      (λ e. rw (select, e) (ap (λ (l : List A). x ∷ l) (filter-append s t)))
+      (λ e. rw (select, e) (filter-append s t))
+
+  pub filter-hit : (s : List A) (x : A) → f x ≡ true → select f (s ++ (x ∷ [])) ≡ select f s ++ (x ∷ [])
+  unfolding select
+  filter-hit s x e = filter-append s (x ∷ []) ∙ rw (select, e)
+
+  pub filter-miss : (s : List A) (x : A) → f x ≡ false → select f (s ++ (x ∷ [])) ≡ select f s
+  unfolding select
+  filter-miss s x e = filter-append s (x ∷ []) ∙ rw (select, e) (append-nil (select f s))
+
+  pub take-hit : (s : List A) (j : ℕ) (d : A) → j < length s → f (getD s j d) ≡ true → select f (take (suc j) s) ≡ select f (take j s) ++ (getD s j d ∷ [])
+  take-hit s j d h e = ap (select f) (take-suc s j d h) ∙ filter-hit (take j s) (getD s j d) e
+
+  pub take-miss : (s : List A) (j : ℕ) (d : A) → j < length s → f (getD s j d) ≡ false → select f (take (suc j) s) ≡ select f (take j s)
+  take-miss s j d h e = ap (select f) (take-suc s j d h) ∙ filter-miss (take j s) (getD s j d) e
+
+-- the numbers below n + 1
+span-suc : (k n : ℕ) → span k (suc n) ≡ span k n ++ ((k + n) ∷ [])
+unfolding span
+span-suc k zero = let e : k ≡ k + 0 = omega arith in ap (λ (x : ℕ). x ∷ []) e
+span-suc k (suc n) = let e : suc k + n ≡ k + suc n = omega arith in ap (λ (l : List ℕ). k ∷ l) (span-suc (suc k) n ∙ ap (λ (x : ℕ). span (suc k) n ++ (x ∷ [])) e)
+
+pub below-suc : (n : ℕ) → below (suc n) ≡ below n ++ (n ∷ [])
+unfolding below
+below-suc n = let e : 0 + n ≡ n = omega arith in span-suc 0 n ∙ ap (λ (x : ℕ). span 0 n ++ (x ∷ [])) e
+
+-- ---- tests that agree
+module _ {A : Type 0} (f g : A → Bool) where
+  pub all-same : (l : List A) → ((x : A) → List·Memᴰ x l → f x ≡ g x) → allOf f l ≡ allOf g l
+  unfolding allOf
+  all-same [] h = refl
+  all-same (x ∷ l) h = ap₂ _&&_ (h x (List·Memᴰ·head refl)) (all-same l (λ y m. h y (List·Memᴰ·tail m)))
+
+  pub filter-same : (l : List A) → ((x : A) → List·Memᴰ x l → f x ≡ g x) → select f l ≡ select g l
+  unfolding select
+  filter-same [] h = refl
+  filter-same (x ∷ l) h =
+      ap₂ (λ (b : Bool) (r : List A). elim b [ true ↦ x ∷ r | false ↦ r ]) (h x (List·Memᴰ·head refl)) (filter-same l (λ y m. h y (List·Memᴰ·tail m)))

@@ -1,0 +1,5 @@
+pub mod Tests
+pub mod Rows
+pub mod Joins
+pub mod Parts
+pub mod Built

@@ -1,0 +1,105 @@
+-- `record::stands_apart` meets its contract: what the members left come to is what all come to. The measure is the number of members left.
+use borrow.Author.Needs.{needs}
+use mathlib.Core.Path.{_≡_, refl, sym, _∙_, ap, ap₂}
+use mathlib.Core.Bool.{true, false}
+use mathlib.Core.List.{List}
+use Prim.Native.Nat.{ℕ, _-_, _*_, _≤_}
+use native.Mathlib.Omega.{arith}
+use lib.IntN.{ℤ}
+use lib.ListN.{length, getD, take, drop}
+use lib.Seq.{getD-take, length-take-le}
+use Rattle.model.specs.declared.Rect.{Rect}
+use Rattle.rects.specs.Rects.{intersects}
+use Rattle.layouts.specs.Flat.{rectAt}
+use Rattle.record.specs.Lent.{apart}
+use Rattle.record.proofs.Joins.{apart-member, apart-overlap, apart-on, apart-end}
+use Rattle.record.proofs.stands_apart.Statement.{statement}
+use Rattle.record.proofs.stands_apart.Tie as tie
+
+record Beyond (edges : List ℤ) (members : List ℕ) (own : Rect) (k e j : ℕ) : Type 0 where
+  upto : j ≤ k
+  size : length (take k members) ≡ k
+  print : own ≡ rectAt edges (8 * e)
+  is : apart edges (take k members) e ≡ apart edges (drop j (take k members)) e
+
+abbrev Inv-loop : tie.InvT-loop
+Inv-loop n edges k e members own j₀ j = Beyond edges members own k e j
+
+abbrev μ-loop : tie.MeasureT-loop
+μ-loop n edges k e members own j₀ j = k - j
+
+footprint-at-requires : tie.Need-footprint-at-requires Inv-loop μ-loop
+footprint-at-requires c κs = omega (arith, c .pre .0, c .pre .2)
+
+loop-holds : tie.Need-loop-holds Inv-loop μ-loop
+loop-holds c =
+    let w : length (c .before .args .t3) ≡ 6 = omega arith in
+    record { upto = omega arith; size = length-take-le (c .before .args .k) (c .before .args .t3) (omega (arith, c .before .pre .1 .six)); print = c .footprint-at .ensures; is = refl }
+
+mul-wide : tie.Need-mul-wide Inv-loop μ-loop
+mul-wide c = omega (arith, c .before .before .before .pre .1 .six, c .loop-test .taken)
+
+array-read-wide : tie.Need-array-read-wide Inv-loop μ-loop
+array-read-wide c = omega (arith, c .before .before .before .pre .1 .six, c .loop-test .taken)
+
+wide-requires : tie.Need-wide-requires Inv-loop μ-loop
+wide-requires c κs = search needs
+
+returns : tie.Need-returns Inv-loop μ-loop
+returns c =
+    let a = c .before .before .before .before .before .args in
+    let l = c .before .before .before .loop in
+    let s = take (a .k) (a .t3) in
+    let m : getD s (l .j) 0 ≡ c .before .wide .result = getD-take (a .k) (a .t3) (l .j) 0 (c .before .before .loop-test .taken) ∙ sym (c .before .wide .ensures) in
+    sym (l .inv .is ∙ apart-member (a .edges .now) s (a .e) (l .j) (omega (arith, l .inv .size, c .before .before .loop-test .taken)) (sym (m ∙ c .if1 .taken)))
+
+footprint-at-requires-2 : tie.Need-footprint-at-requires-2 Inv-loop μ-loop
+footprint-at-requires-2 c κs = omega (arith, c .before .wide .ensures, c .before .before .before .before .before .pre .0, c .before .before .before .before .before .pre .1 .named (c .before .before .before .loop .j) (c .before .before .loop-test .taken))
+
+intersects-requires : tie.Need-intersects-requires Inv-loop μ-loop
+intersects-requires c κs = search needs
+
+returns-2 : tie.Need-returns-2 Inv-loop μ-loop
+returns-2 c =
+    let a = c .before .before .before .before .before .before .before .before .args in
+    let l = c .before .before .before .before .before .before .loop in
+    let s = take (a .k) (a .t3) in
+    let m : getD s (l .j) 0 ≡ c .before .before .before .before .wide .result = getD-take (a .k) (a .t3) (l .j) 0 (c .before .before .before .before .before .loop-test .taken) ∙ sym (c .before .before .before .before .wide .ensures) in
+    let q : intersects (rectAt (a .edges .now) (8 * a .e)) (rectAt (a .edges .now) (8 * getD s (l .j) 0)) ≡ true =
+    ap (λ (x : ℕ). intersects (rectAt (a .edges .now) (8 * a .e)) (rectAt (a .edges .now) (8 * x))) m
+    ∙ ap₂ intersects (sym (l .inv .print)) (sym (c .before .before .footprint-at2 .ensures)) ∙ sym (c .before .intersects .ensures) ∙ c .if2 .taken in
+    sym (l .inv .is ∙ apart-overlap (a .edges .now) s (a .e) (l .j) (omega (arith, l .inv .size, c .before .before .before .before .before .loop-test .taken)) q)
+
+add-j : tie.Need-add-j Inv-loop μ-loop
+add-j c = omega (arith, c .before .before .before .before .before .before .before .before .pre .1 .six, c .before .before .before .before .before .loop-test .taken)
+
+loop-less : tie.Need-loop-less Inv-loop μ-loop
+loop-less c = omega (arith, c .before .before .before .before .before .loop-test .taken)
+
+loop-again : tie.Need-loop-again Inv-loop μ-loop
+loop-again c =
+    let a = c .before .before .before .before .before .before .before .before .args in
+    let l = c .before .before .before .before .before .before .loop in
+    let s = take (a .k) (a .t3) in
+    let m : getD s (l .j) 0 ≡ c .before .before .before .before .wide .result = getD-take (a .k) (a .t3) (l .j) 0 (c .before .before .before .before .before .loop-test .taken) ∙ sym (c .before .before .before .before .wide .ensures) in
+    let q : intersects (rectAt (a .edges .now) (8 * a .e)) (rectAt (a .edges .now) (8 * getD s (l .j) 0)) ≡ false =
+    ap (λ (x : ℕ). intersects (rectAt (a .edges .now) (8 * a .e)) (rectAt (a .edges .now) (8 * x))) m
+    ∙ ap₂ intersects (sym (l .inv .print)) (sym (c .before .before .footprint-at2 .ensures)) ∙ sym (c .before .intersects .ensures) ∙ c .if2 .left in
+    record {
+      upto = omega (arith, c .before .before .before .before .before .loop-test .taken);
+      size = l .inv .size;
+      print = l .inv .print;
+      is = l .inv .is ∙ apart-on (a .edges .now) s (a .e) (l .j) (omega (arith, l .inv .size, c .before .before .before .before .before .loop-test .taken)) (λ d. c .before .before .before .if1 .left (sym m ∙ sym d)) q;
+    }
+
+returns-3 : tie.Need-returns-3 Inv-loop μ-loop
+returns-3 c =
+    let a = c .before .before .before .args in
+    let l = c .before .loop in
+    sym (l .inv .is ∙ apart-end (a .edges .now) (take (a .k) (a .t3)) (a .e) (l .j) (omega (arith, l .inv .size, c .loop-test .left)))
+
+pub stands-apart-spec : {M : Type 1} → statement M
+stands-apart-spec =
+    tie.close
+    (tie.spec Inv-loop μ-loop footprint-at-requires loop-holds mul-wide array-read-wide wide-requires returns footprint-at-requires-2 intersects-requires returns-2
+    add-j loop-less loop-again returns-3)
