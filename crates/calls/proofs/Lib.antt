@@ -13,3 +13,4 @@ pub mod Checked
 pub mod Accepted
 pub mod Again
 pub mod StepLaws
+pub mod Reading

@@ -41,7 +41,7 @@ use Rattle.calls.proofs.Accepted.{good-room, accepted}
 use Rattle.calls.proofs.Again.{work-long, store-long, cleared-again, store-again}
 
 -- ---- lists of checks
-first-both : (xs ys : List (Option Said)) → first (xs ++ ys) ≡ none → (first xs ≡ none) × (first ys ≡ none)
+pub first-both : (xs ys : List (Option Said)) → first (xs ++ ys) ≡ none → (first xs ≡ none) × (first ys ≡ none)
 unfolding first
 first-both [] ys e = (refl, e)
 first-both (none ∷ xs) ys e = first-both xs ys e
@@ -85,7 +85,7 @@ pub record Fair (i : Inputs) (l : Limits) : Type 0 where
   pub endIn : inWindow (i .query .window) (i .query .end) ≡ true
   pub grouped : (k : ℕ) → k < length (i .places) → getD (i .places) k noPlace .group < length (i .groups)
 
-fair : (i : Inputs) (l : Limits) (long : Bool) → first (groupChecks i ++ limitChecks l ++ queryChecks i long) ≡ none → first (placeChecks i) ≡ none → (long ≡ true) × Fair i l
+pub fair : (i : Inputs) (l : Limits) (long : Bool) → first (groupChecks i ++ limitChecks l ++ queryChecks i long) ≡ none → first (placeChecks i) ≡ none → (long ≡ true) × Fair i l
 unfolding groupChecks limitChecks queryChecks placeChecks
 fair i l long e f =
     let a = first-both (groupChecks i ++ limitChecks l) (queryChecks i long) e in

@@ -1,6 +1,6 @@
 -- The parts that are cleared make up the search that was read, laid back; and what 16 tells of the parts that are used.
 use Prim.Native.Nat.{ℕ, _-_, _*_, _≤_}
-use mathlib.Core.Path.{_≡_, refl, sym, _∙_, ap}
+use mathlib.Core.Path.{_≡_, sym, _∙_, ap}
 use mathlib.Core.Bool.{true}
 use mathlib.Core.List.{List, map, reverse}
 use native.Mathlib.Omega.{arith}
@@ -16,7 +16,9 @@ use Rattle.calls.specs.Areas.{Store, laid, rowOf, row, listsOf, pointsLength, s
 use Rattle.calls.proofs.Sound.{sound, long, clauses}
 use Rattle.calls.proofs.Checked.{routes-sum}
 use Rattle.calls.proofs.Whole as whole
-use Rattle.clear.specs.Stores.{zeroed, pointsRoom, tidy, Sized, Used, Passing, LaidBack}
+use Rattle.lengths.specs.Lengths.{pointsRoom}
+use Rattle.lengths.proofs.Fits.{points-room-is}
+use Rattle.clear.specs.Stores.{zeroed, tidy, Sized, Used, Passing, LaidBack}
 use Rattle.clear.proofs.Laws.{zeroed-over}
 
 -- what each part is after clearing
@@ -25,10 +27,6 @@ pub record Parts (q : Query) (l : Limits) (r : Record) (lists visited layouts po
   pub visitedAre : visited′ ≡ laid (7 * l .states) (flat (map row (map (rowOf visited) (below (r .evaluations))))) visited
   pub layoutsAre : layouts′ ≡ laid (7 * l .results) (flat (map row (map (rowOf layouts) (below (r .layouts))))) layouts
   pub pointsAre : points′ ≡ zeroed points (2 * total (take (r .layouts) (r .routes))) (pointsRoom q l - 2 * total (take (r .layouts) (r .routes)))
-
-points-room-is : (i : Inputs) (l : Limits) → pointsLength i l ≡ pointsRoom (i .query) l
-unfolding pointsLength pointsRoom
-points-room-is i l = refl
 
 module _ (i : Inputs) (q : Query) (l : Limits) (r : Record) (lists visited layouts points lists′ visited′ layouts′ points′ : List ℕ) where
   pub laid-back : Sized r → l .results ≤ 32 → Parts q l r lists visited layouts points lists′ visited′ layouts′ points′ → Passing i q l r (storeIn lists visited layouts points)

@@ -1,18 +1,18 @@
 -- What the clearing of unused entries is given, and what it leaves.
-use Prim.Native.Nat.{ℕ, _+_, _*_, _≤_, _<_, min}
+use Prim.Native.Nat.{ℕ, _+_, _*_, _≤_, _<_}
 use mathlib.Core.Path.{_≡_}
 use mathlib.Core.Bool.{true}
 use mathlib.Core.List.{List, _++_}
 use lib.ListN.{length, take, drop, getD, replicate}
 use Rattle.laws.specs.Lists.{total, padded}
-use Rattle.model.specs.declared.Allow.the-variants.{Nobody, Bounded}
 use Rattle.model.specs.declared.Limits.{Limits}
 use Rattle.model.specs.declared.Query.{Query}
 use Rattle.model.specs.declared.Record.{Record}
-use Rattle.rects.specs.Windows.{centres, windowFits}
+use Rattle.rects.specs.Windows.{windowFits}
 use Rattle.layouts.specs.Inputs.{Inputs}
 use Rattle.calls.specs.Areas.{Store, storeFits, stateOf, recordOf, storeOf}
 use Rattle.calls.specs.RecordCheck.{recordFits}
+use Rattle.lengths.specs.Lengths.{pointsRoom}
 
 -- an area with n zeros stored from `at` on
 unfoldable pub zeroed : List ℕ → ℕ → ℕ → List ℕ
@@ -30,10 +30,6 @@ pub record ListsIn (a lengths : List ℕ) (k n : ℕ) : Type 0 where
   pub deep : k ≤ 6
   pub long : 6 * n ≤ length a
   pub small : n ≤ 6144
-
--- the length of the points area
-unfoldable pub pointsRoom : Query → Limits → ℕ
-pointsRoom q l = elim (q .allow) [ Nobody ↦ 0 | Bounded m ↦ 2 * min 1000000 (l .results * centres (q .window)) ]
 
 -- a record with its unused entries zero
 unfoldable pub tidy : Record → Record

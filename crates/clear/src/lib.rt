@@ -1,19 +1,16 @@
 // Clearing the unused entries of a record and its areas, once 16 has let them pass.
-use model::Allow;
 use model::Limits;
 use model::Query;
 use model::Record;
 ghost use mathlib.Core.Path.{_≡_};
-ghost use mathlib.Core.Bool.{true};
-ghost use mathlib.Core.List.{List, map, reverse};
-ghost use Prim.Native.Nat.{ℕ, _+_, _*_, _≤_, _<_, min};
-ghost use lib.ListN.{length, take, getD};
+ghost use mathlib.Core.List.{map, reverse};
+ghost use Prim.Native.Nat.{_+_, _*_, _≤_, _<_};
+ghost use lib.ListN.{length, take};
 ghost use Rattle.laws.specs.Lists.{below, flat, padded, total};
-ghost use Rattle.rects.specs.Windows.{windowFits};
 ghost use Rattle.layouts.specs.Inputs.{Inputs};
 ghost use Rattle.search.specs.State.{Extensions};
 ghost use Rattle.calls.specs.Areas.{laid, rowOf, row, listsOf, storeIn};
-ghost use Rattle.clear.specs.Stores.{zeroed, RowsIn, ListsIn, pointsRoom, tidy, Sized, Used, Passing, LaidBack};
+ghost use Rattle.clear.specs.Stores.{zeroed, RowsIn, ListsIn, tidy, Sized, Used, Passing, LaidBack};
 
 fn index(n: u32) -> usize
     ensures { λ r. ⌜ r ≡ n ⌝ }
@@ -121,30 +118,6 @@ fn kept_points(routes: [u32; 32], count: usize) -> usize
     sum
 }
 
-// Two numbers for each of at most 1,000,000 points.
-fn pairs(most: usize) -> usize
-    ensures { λ r. ⌜ r ≡ 2 * min 1000000 most ⌝ }
-{
-    if most > 1000000 {
-        return 2000000;
-    }
-    2 * most
-}
-
-// The length of the points area.
-fn points_length(query: Query, limits: Limits) -> usize
-    requires { ⌜ (windowFits 8192 8192 (query .window) ≡ true) × (limits .results ≤ 32) ⌝ }
-    ensures { λ r. ⌜ (r ≡ pointsRoom query limits) × (r ≤ 2000000) ⌝ }
-{
-    let allow = query.allow;
-    match allow {
-        Allow::Nobody => 0,
-        Allow::Bounded(_) => pairs(
-            index(limits.results) * (rects::width(query.window) * rects::height(query.window)),
-        ),
-    }
-}
-
 // The record with its unused entries zero.
 fn tidied(rec: Record) -> Record
     requires { ⌜ (rec .layouts ≤ 32) × (rec .lists ≤ 6) ⌝ }
@@ -187,6 +160,6 @@ pub fn clear_unused(
     clear_rows(layouts, index(rec.layouts), 7 * index(limits.results));
     let routes = rec.routes;
     let used = 2 * kept_points(routes, index(rec.layouts));
-    clear_points(points, used, points_length(query, limits) - used);
+    clear_points(points, used, lengths::points_length(query, limits) - used);
     tidied(rec)
 }

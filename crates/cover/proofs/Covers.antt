@@ -6,7 +6,7 @@ use mathlib.Core.List.{List, [], _∷_, _++_, map, append-nil}
 use native.Mathlib.Omega.{arith}
 use lib.Dec.{eqb}
 use lib.IntN.{ℤ}
-use lib.ListN.{length, getD, drop, drop-of-length-le}
+use lib.ListN.{length, getD, drop-of-length-le}
 use Rattle.laws.specs.Lists.{anyOf, below}
 use Rattle.laws.specs.Fill.{filled}
 use Rattle.laws.proofs.Fill.{filled-same}

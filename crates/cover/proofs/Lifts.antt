@@ -1,15 +1,15 @@
 -- A set without its member number k: by members taken in turn, and as the set from which that member is lifted.
-use Prim.Native.Nat.{ℕ, zero, suc, _+_, _≤_, _<_}
-use mathlib.Core.Path.{_≡_, refl, sym, ap, _∙_}
-use mathlib.Core.Bool.{Bool, true, false, not, _&&_, _||_}
+use Prim.Native.Nat.{ℕ, zero, suc, _≤_, _<_}
+use mathlib.Core.Path.{_≡_, refl, sym, ap}
+use mathlib.Core.Bool.{true}
 use mathlib.Core.List.{List, [], _∷_, _++_, List·Memᴰ, List·Memᴰ·head, List·Memᴰ·tail}
 use native.Mathlib.Omega.{arith}
 use native.Mathlib.Nat.{not-suc-le-zero, le-of-suc-le-suc}
-use lib.Dec.{eqb, ltb}
+use lib.Dec.{ltb}
 use lib.ListN.{length, getD, take}
 use lib.Seq.{take-suc}
 use borrow.Author.Tests.{ltb-true, eq-eqb, ne-eqb}
-use Rattle.laws.specs.Lists.{anyOf, allOf, select, ascends, without}
+use Rattle.laws.specs.Lists.{allOf, select, ascends, without}
 use Rattle.laws.proofs.Members.{both, all-member, getD-member}
 use Rattle.cover.specs.Cover.{lift}
 

@@ -1,8 +1,8 @@
 -- The set that leaves a route: its points are a trail in the window, so the placements listed are the set's extensions.
-use Prim.Native.Nat.{ℕ, _+_, _*_, _<_, _≤_}
+use Prim.Native.Nat.{ℕ, _*_, _<_}
 use mathlib.Core.Path.{_≡_, refl, sym, ap, _∙_, subst}
 use mathlib.Core.Bool.{true}
-use mathlib.Core.Option.{Option, none, some}
+use mathlib.Core.Option.{Option, some}
 use mathlib.Core.List.{List}
 use native.Mathlib.Omega.{arith}
 use lib.IntN.{ℤ}
@@ -11,12 +11,11 @@ use Rattle.model.specs.declared.Rect.{Rect}
 use Rattle.model.specs.declared.Query.{Query}
 use Rattle.rects.specs.Windows.{width, height, centres}
 use Rattle.routes.specs.Edges.{Step, eachOnce, windowEdges}
-use Rattle.routes.specs.Routes.{route}
 use Rattle.routes.proofs.RouteTheorem.{route-is-road}
 use Rattle.routes.proofs.WindowLaws.{window-within}
 use Rattle.layouts.specs.Boards.{Mover, leavesOpen}
 use Rattle.layouts.specs.Explore.{Extend, touches, extensions, explore}
-use Rattle.cover.specs.Cover.{moverIn, lift, coverOf, Named}
+use Rattle.cover.specs.Cover.{moverIn, lift, Named}
 use Rattle.cover.proofs.Lifts.{lift-past}
 use Rattle.extend.specs.Touch.{Trail, touched}
 use Rattle.extend.specs.Join.{Rowed, extending, Listed}

@@ -1,28 +1,20 @@
 -- The board of placements lent flat is the board of the paper.
-use Prim.Native.Nat.{ℕ, _+_, _*_, _/_, _≤_, _<_, min}
-use mathlib.Core.Path.{_≡_, refl, sym, ap, ap₂, _∙_}
-use mathlib.Core.Bool.{Bool, true, false, _&&_}
-use mathlib.Core.Option.{Option, some}
-use mathlib.Core.List.{List, [], _∷_, _++_, map, append-nil}
-use native.Mathlib.Omega.{arith}
-use lib.Dec.{eqb, ltb}
-use lib.IntN.{ℤ, pos}
-use lib.ListN.{length, getD, List·getD-eq-default}
-use borrow.Author.Tests.{eq-eqb, ltb-true, ltb-false}
-use Rattle.laws.specs.Lists.{below}
-use Rattle.laws.proofs.Members.{either}
+use Prim.Native.Nat.{ℕ, _*_}
+use mathlib.Core.Path.{_≡_, refl, sym, ap}
+use mathlib.Core.Option.{some}
+use mathlib.Core.List.{List}
+use lib.IntN.{ℤ}
+use lib.ListN.{length}
 use Rattle.model.specs.declared.Rect.{Rect}
 use Rattle.model.specs.declared.Bounds.{Bounds}
-use Rattle.model.specs.declared.Placement.{Placement}
 use Rattle.model.specs.declared.Allow.{Allow}
 use Rattle.model.specs.declared.Allow.the-variants.{Nobody, Bounded}
 use Rattle.model.specs.declared.Query.{Query}
-use Rattle.rects.specs.Rects.{rect, intersects, keepsOff}
+use Rattle.rects.specs.Rects.{keepsOff}
 use Rattle.rects.specs.Windows.{width, height, centres, pixelX, pixelY, centreAt}
 use Rattle.routes.specs.Edges.{Step, windowEdges}
-use Rattle.layouts.specs.Boards.{Mover, Places}
-use Rattle.layouts.specs.Inputs.{noPlace, placesOf, moverOf, allowedOf, boardOf}
-use Rattle.layouts.specs.Flat.{rectAt, placementAt, wholes, placementsOf, placesIn, inputsOf}
+use Rattle.layouts.specs.Inputs.{moverOf, allowedOf, boardOf}
+use Rattle.layouts.specs.Flat.{placementAt, placementsOf, inputsOf}
 use Rattle.cover.specs.Cover.{moverIn}
 use Rattle.layouts.proofs.FlatPlaces.{place-at, flat-places}
 use Rattle.explore.specs.Ready.{allowIn, flatBoard}

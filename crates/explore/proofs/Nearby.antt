@@ -4,19 +4,19 @@ use mathlib.Core.Path.{_≡_, refl, sym, ap, ap₂, _∙_, subst}
 use mathlib.Core.Bool.{Bool, true, false, _&&_, _||_}
 use mathlib.Core.Logic.{⊎-elim}
 use mathlib.Core.Option.{Option}
-use mathlib.Core.List.{List, [], _∷_, _++_, map, List·Memᴰ, List·Memᴰ·head, List·Memᴰ·tail, List·Memᴰ·not-nil, List·Memᴰ·cases-cons, List·Memᴰ·append-cases, List·Memᴰ·eq-of-singleton}
+use mathlib.Core.List.{List, [], _∷_, map, List·Memᴰ, List·Memᴰ·not-nil, List·Memᴰ·cases-cons, List·Memᴰ·append-cases, List·Memᴰ·eq-of-singleton}
 use lib.Dec.{eqb, ltb}
-use lib.IntN.{ℤ, pos, natAbs, _+ℤ_}
+use lib.IntN.{ℤ, pos, _+ℤ_}
 use lib.ListN.{length, getD}
 use borrow.Author.Tests.{ltb-true}
-use Rattle.laws.specs.Lists.{allOf, select}
+use Rattle.laws.specs.Lists.{allOf}
 use Rattle.laws.proofs.Members.{either, getD-member}
 use Rattle.laws.proofs.Turns.{all-same, filter-same}
-use Rattle.routes.specs.Edges.{Edge, Step, eqZ, centre, inside, sidesFrom, edgeBy, windowEdges}
+use Rattle.routes.specs.Edges.{Edge, Step, eqZ, centre, sidesFrom, edgeBy, windowEdges}
 use Rattle.routes.specs.Routes.{Route, neighbours, onward, discover, sweep, Searched, searchFrom, anyRoute, nodesOf, route}
 use Rattle.routes.proofs.Neighbours.{Within, neighbours-below}
 use Rattle.routes.proofs.SearchLaws.{extend-keeps}
-use Rattle.routes.proofs.WindowLaws.{Inside, inside-is, centre-below, centre-inside, ByStep, window-out, window-within}
+use Rattle.routes.proofs.WindowLaws.{Inside, inside-is, centre-below, centre-inside, window-out, window-within}
 
 -- the sides of edges of nodes below n are below n
 abbrev pub Sided : (ℕ → List Edge) → ℕ → Type 0

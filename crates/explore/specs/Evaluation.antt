@@ -1,9 +1,8 @@
 -- What an evaluation answers and leaves in the areas.
 use Prim.Native.Nat.{ℕ}
 use mathlib.Core.Path.{_≡_}
-use mathlib.Core.Bool.{Bool}
 use mathlib.Core.Option.{Option, none, some}
-use mathlib.Core.List.{List, [], _++_}
+use mathlib.Core.List.{List, _++_}
 use lib.ListN.{length, take, drop}
 use Rattle.layouts.specs.Explore.{Outcome, Nothing, Extend, Wall}
 use Rattle.route.specs.Results.{pointsOf, laidInto}

@@ -17,8 +17,7 @@ use Rattle.rects.specs.Windows.{width, height, centres, windowFits, inWindow}
 use Rattle.routes.specs.Edges.{Step, stepsOf, eachOnce, windowEdges}
 use Rattle.routes.specs.Routes.{route}
 use Rattle.layouts.specs.Boards.{Mover, Board, leavesOpen}
-use Rattle.layouts.specs.Flat.{placementsOf, placesIn}
-use Rattle.layouts.specs.Inputs.{Inputs}
+use Rattle.layouts.specs.Flat.{placesIn}
 use Rattle.cover.specs.Cover.{moverIn, Named}
 use Rattle.extend.specs.Join.{Rowed}
 

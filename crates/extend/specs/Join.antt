@@ -9,7 +9,6 @@ use lib.ListN.{length, getD, drop}
 use Rattle.laws.specs.Lists.{select, below}
 use Rattle.model.specs.declared.Rect.{Rect}
 use Rattle.model.specs.declared.Bounds.{Bounds}
-use Rattle.rects.specs.Rects.{intersects}
 use Rattle.routes.specs.Edges.{Step}
 use Rattle.layouts.specs.Boards.{Places, used, mayJoin}
 use Rattle.layouts.specs.Flat.{rectAt}

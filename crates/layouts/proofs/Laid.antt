@@ -21,7 +21,7 @@ use Rattle.routes.proofs.Neighbours.{Within, Paired}
 use Rattle.routes.proofs.Leans.{OneEdge}
 use Rattle.routes.proofs.WindowLaws.{window-within, window-paired, window-one-edge}
 use Rattle.layouts.specs.Boards.{Board}
-use Rattle.layouts.specs.Inputs.{Inputs, noPlace, placesOf, boardOf}
+use Rattle.layouts.specs.Inputs.{Inputs, exchanged, noPlace, placesOf, boardOf}
 
 pub record Laid (g : Board) : Type 0 where
   pub within : Within (g .edges) (g .nodes)
@@ -79,16 +79,7 @@ laid-board steps i once from to =
       mutual-overlap = λ j k. intersects-comm (getD (i .places) j noPlace .footprint) (getD (i .places) k noPlace .footprint);
     }
 
--- the same inputs with start and end exchanged lay the board with its ends exchanged
-unfoldable pub exchanged : Inputs → Inputs
-exchanged i = record {
-  query = record { window = i .query .window; start = i .query .end; end = i .query .start; block = i .query .block; allow = i .query .allow };
-  groups = i .groups;
-  places = i .places;
-  blockBase = i .blockBase;
-  allowBase = i .allowBase;
-}
-
+-- exchanged inputs lay the board with its ends exchanged
 pub board-exchanged : (steps : List Step) (i : Inputs) → boardOf steps (exchanged i) ≡ turned (boardOf steps i)
 unfolding boardOf exchanged turned
 board-exchanged steps i = refl

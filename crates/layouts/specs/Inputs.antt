@@ -25,6 +25,16 @@ pub record Inputs : Type 0 where
   pub blockBase : List ℕ
   pub allowBase : List ℕ
 
+-- from end to start: the same but for the ends, which are exchanged
+unfoldable pub exchanged : Inputs → Inputs
+exchanged i = record {
+  query = record { window = i .query .window; start = i .query .end; end = i .query .start; block = i .query .block; allow = i .query .allow };
+  groups = i .groups;
+  places = i .places;
+  blockBase = i .blockBase;
+  allowBase = i .allowBase;
+}
+
 -- stands where an index names no placement
 unfoldable pub noPlace : Placement
 noPlace = record { spec = 0; group = 0; tile = record { x = 0; y = 0 }; footprint = rect (pos 0) (pos 0) (pos 0) (pos 0); collision = rect (pos 0) (pos 0) (pos 0) (pos 0) }

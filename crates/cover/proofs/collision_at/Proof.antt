@@ -1,7 +1,7 @@
 -- `cover::collision_at` meets its contract: rectangle i * 2 + 1 of the row stands from 8 * i + 4 on.
 use borrow.Author.Needs.{needs}
 use mathlib.Core.Path.{_≡_, _∙_}
-use Prim.Native.Nat.{ℕ, _+_, _*_}
+use Prim.Native.Nat.{_+_, _*_}
 use native.Mathlib.Omega.{arith}
 use Rattle.rects.specs.Spans as spans
 use Rattle.layouts.specs.Flat.{rectAt}

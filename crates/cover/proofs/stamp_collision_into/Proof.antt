@@ -1,11 +1,10 @@
 -- `cover::stamp_collision_into` meets its contract: the span's centres are those off which the rectangle keeps the mover.
 use borrow.Author.Needs.{needs}
-use mathlib.Core.Path.{_≡_, sym, ap, _∙_}
+use mathlib.Core.Path.{ap, _∙_}
 use mathlib.Core.Bool.{Bool, cond}
-use Prim.Native.Nat.{ℕ, _*_, _/_, _%_, _≤_}
+use Prim.Native.Nat.{ℕ, _/_, _%_}
 use native.Mathlib.Nat.{mul-comm, mul-le-mul-right}
-use native.Mathlib.Omega.{arith}
-use lib.ListN.{length, getD}
+use lib.ListN.{getD}
 use Rattle.rects.specs.Spans.{inSpan}
 use Rattle.rects.specs.Windows.{width, height, centres}
 use Rattle.rects.proofs.Windows.{width-some}

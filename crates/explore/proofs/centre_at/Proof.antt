@@ -1,9 +1,6 @@
 -- `explore::centre_at` meets its contract: the window's corner is read back from its bits.
-use mathlib.Core.Path.{_≡_, sym, ap, _∙_}
-use Prim.Native.Nat.{ℕ, _<_}
-use Rattle.rects.specs.Windows.{centres, centreAt}
+use Rattle.rects.specs.Windows.{centreAt}
 use Rattle.rects.proofs.Edges.{edges}
-use Rattle.route.specs.Ground.{InWindow}
 use Rattle.explore.proofs.Centres.{placed}
 use Rattle.explore.proofs.centre_at.Statement.{statement}
 use Rattle.explore.proofs.centre_at.Tie as tie

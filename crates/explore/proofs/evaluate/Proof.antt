@@ -1,5 +1,5 @@
 -- `explore::evaluate` meets its contract, by whether the set leaves the blocked mover a route.
-use mathlib.Core.Path.{_≡_, refl, sym, ap, _∙_, subst}
+use mathlib.Core.Path.{_≡_, sym, ap, _∙_, subst}
 use mathlib.Core.List.{List}
 use Prim.Native.Nat.{ℕ}
 use lib.ListN.{length}
@@ -8,7 +8,7 @@ use Rattle.routes.specs.Edges.{stepsOf}
 use Rattle.layouts.specs.Explore as layouts
 use Rattle.cover.specs.Cover.{moverIn, coverOf}
 use Rattle.route.specs.Results as route
-use Rattle.explore.specs.Ready.{Moving, Kept, passed, flatBoard}
+use Rattle.explore.specs.Ready.{Kept, passed, flatBoard}
 use Rattle.explore.specs.Evaluation.{Evaluated}
 use Rattle.explore.proofs.Passing.{wiped, lent-again}
 use Rattle.explore.proofs.Evaluating.{routed-none}

@@ -1,11 +1,7 @@
 -- `explore::lets_pass` meets its contract: there is a route where it has points, and the path is wiped.
-use mathlib.Core.Path.{_≡_, sym, ap, _∙_}
-use native.Mathlib.Omega.{arith}
+use mathlib.Core.Path.{sym, _∙_}
 use Rattle.rects.specs.Windows.{centres}
-use Rattle.routes.specs.Edges.{stepsOf}
-use Rattle.cover.specs.Cover.{moverIn, lift}
-use Rattle.explore.specs.Ready.{passed}
-use Rattle.explore.proofs.Passing.{Wiped, wiped}
+use Rattle.explore.proofs.Passing.{wiped}
 use Rattle.explore.proofs.lets_pass.Statement.{statement}
 use Rattle.explore.proofs.lets_pass.Tie as tie
 

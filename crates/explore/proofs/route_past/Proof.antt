@@ -1,15 +1,14 @@
 -- `explore::route_past` meets its contract: the map is that of the set, and the route over the map is the route past the set.
-use borrow.Author.Needs.{needs}
-use mathlib.Core.Path.{_≡_, sym, ap, _∙_, subst}
+use mathlib.Core.Path.{_≡_, ap, _∙_, subst}
 use mathlib.Core.Option.{Option}
 use mathlib.Core.List.{List}
-use Prim.Native.Nat.{ℕ, _*_, _≤_, _<_, _^_}
+use Prim.Native.Nat.{ℕ, _*_}
 use native.Mathlib.Omega.{arith}
 use lib.ListN.{length, replicate, take, length-replicate}
 use lib.Seq.{take-all}
 use Rattle.rects.specs.Windows.{width, height, centres}
 use Rattle.routes.specs.Edges.{stepsOf}
-use Rattle.cover.specs.Cover.{moverIn, lift, coverOf}
+use Rattle.cover.specs.Cover.{moverIn, lift}
 use Rattle.cover.proofs.Covers.{length-cover}
 use Rattle.route.specs.Results.{Routed}
 use Rattle.explore.proofs.Passing.{past-is}

@@ -1,21 +1,17 @@
 -- `explore::wall_of` meets its contract: a blocked end, a member too many, or an allowed mover without a route leave nothing; else the set is a wall.
-use mathlib.Core.Path.{_≡_, refl, sym, ap, _∙_, subst}
+use mathlib.Core.Path.{_≡_, refl, sym, ap, _∙_}
 use mathlib.Core.Bool.{true, false}
 use mathlib.Core.List.{List}
 use Prim.Native.Nat.{ℕ, _<_}
 use native.Mathlib.Omega.{arith}
-use lib.ListN.{length, getD}
+use lib.ListN.{getD}
 use borrow.Author.Tests.{eq-eqb, ne-eqb, not-true, not-false}
-use Rattle.rects.specs.Windows.{centres}
-use Rattle.routes.specs.Edges.{Step, stepsOf}
-use Rattle.layouts.specs.Boards.{Board, Mover, leavesOpen}
-use Rattle.layouts.specs.Explore as layouts
-use Rattle.cover.specs.Cover.{coverOf, moverIn}
+use Rattle.routes.specs.Edges.{stepsOf}
+use Rattle.layouts.specs.Boards.{Mover, leavesOpen}
+use Rattle.cover.specs.Cover.{coverOf}
 use Rattle.route.specs.Ground.{openIn}
 use Rattle.route.specs.Results as route
-use Rattle.explore.specs.declared.Passage as passage
 use Rattle.explore.specs.Ready.{flatBoard, Kept}
-use Rattle.explore.specs.Evaluation.{Evaluated, Allowed}
 use Rattle.explore.proofs.Passing.{open-is, lent-again}
 use Rattle.explore.proofs.Evaluating.{explore-blocked, explore-spare, eval-nothing, wallAnswer, eval-walled, flat-past, flat-minimal, flat-start, flat-end, flat-open}
 use Rattle.explore.proofs.wall_of.Statement.{statement}

@@ -1,11 +1,9 @@
 -- `extend::candidate_touches_witness` meets its contract: the steps passed touch nothing. The measure is the number of points left.
 use borrow.Author.Needs.{needs}
-use mathlib.Core.Path.{_≡_, refl, sym, ap, _∙_, subst}
-use mathlib.Core.Bool.{Bool}
-use mathlib.Core.List.{List, []}
-use Prim.Native.Nat.{ℕ, _+_, _-_, _/_, _%_, _≤_, _<_}
+use mathlib.Core.Path.{_≡_, refl, sym, ap, _∙_}
+use Prim.Native.Nat.{ℕ, _-_, _/_, _%_}
 use native.Mathlib.Omega.{arith}
-use lib.ListN.{length, getD, take}
+use lib.ListN.{take}
 use Rattle.laws.specs.Lists.{anyOf}
 use Rattle.rects.specs.Windows.{width}
 use Rattle.rects.proofs.Windows.{width-some}

@@ -1,22 +1,19 @@
 -- `extend::extensions` meets its contract: the list holds the extensions among the placements passed, and the members passed do not bar the placement looked
 -- at. The measures are the numbers of placements and of members left.
 use borrow.Author.Needs.{needs}
-use mathlib.Core.Path.{_≡_, refl, sym, ap, ap₂, _∙_, subst}
-use mathlib.Core.Bool.{Bool, true, false, not}
+use mathlib.Core.Path.{_≡_, sym, ap₂, _∙_}
+use mathlib.Core.Bool.{Bool}
 use mathlib.Core.List.{List}
 use Prim.Native.Nat.{ℕ, _+_, _-_, _*_, _≤_, _<_}
 use native.Mathlib.Omega.{arith}
-use lib.Dec.{eqb}
 use lib.IntN.{ℤ}
 use lib.ListN.{length, getD, take, set}
 use borrow.Author.Tests.{eq-eqb, ne-eqb, not-true, not-false}
-use Rattle.laws.specs.Lists.{select, below}
 use Rattle.laws.proofs.Members.{getD-member}
 use Rattle.model.specs.declared.Rect.{Rect}
 use Rattle.model.specs.declared.Bounds.{Bounds}
 use Rattle.rects.specs.Rects.{intersects}
 use Rattle.routes.specs.Edges.{Step}
-use Rattle.layouts.specs.Boards.{Places, mayJoin}
 use Rattle.layouts.specs.Flat.{rectAt, placesIn}
 use Rattle.extend.specs.Touch.{Trail, touched}
 use Rattle.extend.specs.Join.{Rowed, extending}

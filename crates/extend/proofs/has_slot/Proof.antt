@@ -1,11 +1,6 @@
 -- `extend::has_slot` meets its contract: the members of the placement's group are fewer than its slots.
 use borrow.Author.Needs.{needs}
-use mathlib.Core.Path.{_≡_, ap₂, _∙_, sym}
-use Prim.Native.Nat.{ℕ, _+_, _*_, _<_}
 use native.Mathlib.Omega.{arith}
-use lib.Dec.{ltb}
-use lib.ListN.{getD, length}
-use Rattle.layouts.specs.Boards as boards
 use Rattle.extend.specs.Join.{freeSlot}
 use Rattle.extend.proofs.has_slot.Statement.{statement}
 use Rattle.extend.proofs.has_slot.Tie as tie

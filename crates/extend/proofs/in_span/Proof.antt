@@ -1,5 +1,4 @@
 -- `extend::in_span` meets its contract, test by test.
-use mathlib.Core.Path.{_≡_, refl}
 use borrow.Author.Tests.{lt-ltb, le-ltb, le-leb, lt-leb}
 use Rattle.rects.specs.Spans.{inSpan}
 use Rattle.extend.proofs.in_span.Statement.{statement}

@@ -1,6 +1,6 @@
 -- `extend::step_in` meets its contract, test by test.
 use borrow.Author.Needs.{needs}
-use mathlib.Core.Path.{_≡_, sym, _∙_}
+use mathlib.Core.Path.{sym, _∙_}
 use borrow.Author.Tests.{eq-eqb, ne-eqb}
 use Rattle.extend.specs.Touch.{stepIn}
 use Rattle.extend.proofs.step_in.Statement.{statement}

@@ -1,0 +1,74 @@
+-- The call begin, taken apart: what it leaves by the answer of its checks.
+use Prim.Native.Nat.{ℕ}
+use mathlib.Core.Path.{_≡_, refl, ap, _∙_}
+use mathlib.Core.Option.{Option, none, some}
+use mathlib.Core.List.{List, [], _∷_, _++_}
+use lib.IntN.{ℤ}
+use lib.ListN.{length, take, drop, replicate, length-replicate}
+use lib.Seq.{take-at}
+use Rattle.model.specs.Answers.{Said, first}
+use Rattle.model.specs.declared.Limits.{Limits}
+use Rattle.model.specs.declared.Record.{Record}
+use Rattle.rects.specs.Windows.{centres}
+use Rattle.routes.specs.Edges.{Step}
+use Rattle.layouts.specs.Inputs.{Inputs, boardOf}
+use Rattle.search.specs.Frames.{begun}
+use Rattle.calls.specs.Areas.{Work, Store, workIn, laid, cleared, recordOf, storeOf}
+use Rattle.calls.specs.Checks.{placeChecks}
+use Rattle.calls.specs.Calls.{noRecord, beginChecks, bothRoutes, beginCall}
+use Rattle.checks.proofs.Passed.{Begun}
+use Rattle.clearing.proofs.Cleared.{laid-none}
+use Rattle.begin.specs.Fresh.{orElse}
+use Rattle.begin.specs.Movers.{Movable, Same}
+
+-- ---- what begin leaves
+module _ (steps : List Step) (i : Inputs) (l : Limits) (w : Work) (s : Store) {x : Record} where
+  -- one of the first checks refuses: nothing is written
+  pub first-refused : {r : Said} → first (beginChecks i l w s) ≡ some r → x ≡ noRecord → beginCall steps i l w s ≡ record { answer = some r; rec = x; work = w; store = s }
+  unfolding beginCall
+  first-refused e f = rw (beginCall, e, f) refl
+
+  module _ {w′ : Work} (e : first (beginChecks i l w s) ≡ none) (f : w′ ≡ cleared (i .query .window) w) where
+    -- one of the later: the working areas are cleared
+    pub later-refused : {r : Said} → first (bothRoutes (boardOf steps i) ++ placeChecks i) ≡ some r → x ≡ noRecord
+        → beginCall steps i l w s ≡ record { answer = some r; rec = x; work = w′; store = s }
+    unfolding beginCall
+    later-refused g h = rw (beginCall, e, g, f, h) refl
+
+    pub accepts : {s′ : Store} → first (bothRoutes (boardOf steps i) ++ placeChecks i) ≡ none → x ≡ recordOf (length (i .places)) begun → s′ ≡ storeOf i l begun s
+        → beginCall steps i l w s ≡ record { answer = none; rec = x; work = w′; store = s′ }
+    unfolding beginCall
+    accepts g h k = rw (beginCall, e, g, f, h, k) refl
+
+-- ---- the working areas, cleared, are ready for a passage
+clear-front : (n : ℕ) (area : List ℕ) → take n (laid n [] area) ≡ replicate n 0
+clear-front n area = ap (λ (x : List ℕ). take n x) (laid-none n area) ∙ take-at (replicate n 0) (drop n area) n (length-replicate n 0)
+
+pub movable : (i : Inputs) (l : Limits) (w : Work) (s : Store) (w′ : Work) → Begun i l w s → w′ ≡ cleared (i .query .window) w
+    → Movable (i .query) (i .blockBase) (i .allowBase) (w′ .queue) (w′ .predecessors) (w′ .route)
+unfolding cleared
+movable i l w s w′ b e =
+    let n = centres (i .query .window) in
+    record {
+      swept = record {
+        window = b .framing .window;
+        startIn = b .framing .startIn;
+        endIn = b .framing .endIn;
+        queueClear = ap (λ (x : Work). take n (x .queue)) e ∙ clear-front n (w .queue);
+        previousClear = ap (λ (x : Work). take n (x .predecessors)) e ∙ clear-front n (w .predecessors);
+        pathClear = ap (λ (x : Work). take n (x .route)) e ∙ clear-front n (w .route);
+      };
+      block = b .baselines .block;
+      allow = b .baselines .allow;
+    }
+
+-- three areas are as they were, so the working areas are
+pub work-same : (counts : List ℤ) (map : List ℕ) {q p r q′ p′ r′ : List ℕ} → Same q p r q′ p′ r′ → workIn counts map q′ p′ r′ ≡ workIn counts map q p r
+work-same counts map s = rw (s .queueSame, s .previousSame, s .pathSame) refl
+
+-- two lists of checks, one after the other
+pub first-or : (xs ys : List (Option Said)) → first (xs ++ ys) ≡ orElse (first xs) (first ys)
+unfolding first orElse
+first-or [] ys = refl
+first-or (none ∷ xs) ys = first-or xs ys
+first-or (some r ∷ xs) ys = refl

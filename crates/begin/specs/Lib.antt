@@ -1,0 +1,2 @@
+pub mod Movers
+pub mod Fresh

@@ -1,0 +1,4 @@
+pub mod Asked
+pub mod Grouped
+pub mod Placed
+pub mod Passed

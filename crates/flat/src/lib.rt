@@ -1,0 +1,107 @@
+// A lent row of placements as flat rows of numbers and edges.
+use model::Placement;
+use model::Rect;
+ghost use mathlib.Core.Path.{_≡_};
+ghost use mathlib.Core.List.{map, _++_};
+ghost use Prim.Native.Nat.{_+_, _*_, _≤_, min};
+ghost use lib.IntN.{pos};
+ghost use lib.ListN.{length, take, drop, replicate};
+ghost use Rattle.laws.specs.Lists.{flat};
+ghost use Rattle.flat.specs.Rows.{numbersOf, edgesOf, bothOf, put, rowsOf};
+
+// How many placements are laid at most: one more than a call takes, so that a call sees where there are too many.
+pub const MOST: usize = 6145;
+// How many numbers a placement has (spec index, group, tile x, tile y), and how many edges (footprint, collision).
+pub const NUMBERS: usize = 4;
+
+pub const EDGES: usize = 8;
+
+pub struct Rows {
+    pub numbers: [u32; NUMBERS * MOST],
+    pub edges: [i32; EDGES * MOST],
+}
+
+fn put_numbers(numbers: &mut [u32], at: usize, p: Placement)
+    requires { ⌜ at + 4 ≤ length (now numbers) ⌝ }
+    ensures { λ _. ⌜ now (numbers .exit) ≡ put (now (numbers .entry)) at (numbersOf p) ⌝ }
+{
+    let tile = p.tile;
+    numbers[at] = p.spec;
+    numbers[at + 1] = p.group;
+    numbers[at + 2] = tile.x;
+    numbers[at + 3] = tile.y;
+}
+
+fn put_edges(edges: &mut [i32], at: usize, r: Rect)
+    requires { ⌜ at + 4 ≤ length (now edges) ⌝ }
+    ensures { λ _. ⌜ now (edges .exit) ≡ put (now (edges .entry)) at (edgesOf r) ⌝ }
+{
+    let left = r.left;
+    let top = r.top;
+    let right = r.right;
+    let bottom = r.bottom;
+    edges[at] = left;
+    edges[at + 1] = top;
+    edges[at + 2] = right;
+    edges[at + 3] = bottom;
+}
+
+// One placement's numbers and edges; the next index.
+fn lay(numbers: &mut [u32], edges: &mut [i32], i: usize, p: Placement) -> usize
+    requires { ⌜ (4 * i + 4 ≤ length (now numbers)) × (8 * i + 8 ≤ length (now edges)) ⌝ }
+    ensures { λ r. ⌜ (r ≡ i + 1) × ((now (numbers .exit) ≡ put (now (numbers .entry)) (4 * i) (numbersOf p)) × (now (edges .exit) ≡ put (now (edges .entry)) (8 * i) (bothOf p))) ⌝ }
+{
+    let at = EDGES * i;
+    put_numbers(numbers, NUMBERS * i, p);
+    put_edges(edges, at, p.footprint);
+    put_edges(edges, at + 4, p.collision);
+    i + 1
+}
+
+// The first n placements.
+fn lay_all(places: &[Placement], n: usize, numbers: &mut [u32], edges: &mut [i32])
+    requires { ⌜ (n ≤ length (now places)) × ((4 * n ≤ length (now numbers)) × (8 * n ≤ length (now edges))) ⌝ }
+    ensures { λ _. ⌜ (now (numbers .exit) ≡ flat (map numbersOf (take n (now (places .entry)))) ++ drop (4 * n) (now (numbers .entry))) × (now (edges .exit) ≡ flat (map bothOf (take n (now (places .entry)))) ++ drop (8 * n) (now (edges .entry))) ⌝ }
+{
+    let mut i = 0;
+    while i < n {
+        i = lay(numbers, edges, i, places[i]);
+    }
+}
+
+fn no_numbers() -> [u32; NUMBERS * MOST]
+    ensures { λ r. ⌜ r ≡ replicate 24580 0 ⌝ }
+{
+    [0u32; NUMBERS * MOST]
+}
+
+fn no_edges() -> [i32; EDGES * MOST]
+    ensures { λ r. ⌜ r ≡ replicate 49160 (pos 0) ⌝ }
+{
+    [0i32; EDGES * MOST]
+}
+
+pub fn at_most(n: usize) -> usize
+    ensures { λ r. ⌜ r ≡ min n 6145 ⌝ }
+{
+    if n <= MOST {
+        return n;
+    }
+    MOST
+}
+
+fn both(numbers: [u32; NUMBERS * MOST], edges: [i32; EDGES * MOST]) -> Rows
+    ensures { λ r. ⌜ r ≡ record { numbers = numbers; edges = edges } ⌝ }
+{
+    Rows { numbers, edges }
+}
+
+// The first 6,145 placements at most, zeros after.
+pub fn rows_of(places: &[Placement]) -> Rows
+    ensures { λ r. ⌜ r ≡ rowsOf (now (places .entry)) ⌝ }
+{
+    let mut numbers = no_numbers();
+    let mut edges = no_edges();
+    lay_all(places, at_most(places.len()), &mut numbers, &mut edges);
+    both(numbers, edges)
+}

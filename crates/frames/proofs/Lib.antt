@@ -1,0 +1,5 @@
+pub mod Stored
+pub mod Whole
+pub mod Visits
+pub mod Stepping
+pub mod Inside

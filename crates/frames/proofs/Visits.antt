@@ -1,0 +1,317 @@
+-- `visit`: what its calls ask, and what it leaves by the answer of the evaluation.
+use Prim.Native.Nat.{ℕ, _+_, _-_, _*_, _≤_, _<_}
+use mathlib.Core.Path.{_≡_, sym, _∙_, ap, ap₂, subst}
+use mathlib.Core.Bool.{Bool, true}
+use mathlib.Core.List.{List, [], _∷_, _++_, map, reverse, reverse-reverse, List·Memᴰ}
+use native.Mathlib.Omega.{arith}
+use native.Mathlib.Nat.{mul-le-mul-right}
+use lib.Dec.{leb, eqb}
+use lib.ListN.{length, take, drop, getD, replicate, length-take, length-drop, replicate-append-replicate}
+use lib.Seq.{getD-take, drop-at}
+use borrow.Author.Tests.{leb-true, leb-false, eqb-true, eqb-false}
+use Rattle.laws.specs.Lists.{flat}
+use Rattle.laws.proofs.Members.{either, getD-member}
+use Rattle.model.specs.declared.Record.{Record}
+use Rattle.rects.specs.Windows.{centres}
+use Rattle.rects.proofs.Windows.{framed}
+use Rattle.layouts.specs.Flat.{inputsOf}
+use Rattle.layouts.specs.Inputs.{placesOf, boardOf}
+use Rattle.layouts.specs.Explore.{Outcome, Nothing, Extend, Wall, explore}
+use Rattle.layouts.proofs.Fits.{Fits}
+use Rattle.search.specs.State.{Running, Extensions, Layout, State, setOn, pointsKept}
+use Rattle.search.specs.Frames.{Plan, advance}
+use Rattle.search.proofs.Moves.{held, Fresh}
+use Rattle.search.proofs.Formed.{Lines, lines-fit, length-setOn}
+use Rattle.calls.specs.Areas.{Store, laid, row, numbers, pointsLength}
+use Rattle.calls.specs.Calls.{planOf}
+use Rattle.rows.specs.Lay.{zeros, over, Stood, SomeStood}
+use Rattle.rows.proofs.Stores.{length-zeros, drop-zeros}
+use Rattle.rows.proofs.Blocks.{length-flat}
+use Rattle.rows.proofs.Sets.{length-row, row-head}
+use Rattle.turns.specs.Held.{stackOf, Part, Ripe, keptIn, Listable, LookedAt, Listing, enteredRec, pushedRec, listedRec, stopRec}
+use Rattle.turns.proofs.Laying.{Summed, summed, as-pending, length-stack}
+use Rattle.turns.proofs.Sights.{part-stood, behind, length-laid}
+use Rattle.explore.specs.declared.Explored as answer
+use Rattle.explore.specs.Ready.{Ready}
+use Rattle.explore.specs.Evaluation.{outcomeOf, numberOf, sizeOf, listAfter, pathAfter, Evaluated}
+use Rattle.frames.specs.Kept.{Terms, store, inputsIn, countIn, boardIn, planIn, Given, Holds}
+use Rattle.frames.proofs.Inside.{wall-inside}
+use Rattle.frames.proofs.Stored.{kept-is, length-kept, members-of}
+use Rattle.frames.proofs.Whole.{part-same, fitting, points-fit, holds-part, layouts-are, points-are, entered, visited-put, visited-room, lists-are, v-nothing, v-extend, extend-room, extend-record, extend-lists, v-full, wall-room, v-wall}
+
+-- a wall's route laid into a clear area and wiped
+pub path-wiped : (c k : ℕ) (w path path′ path″ : List ℕ) → path ≡ replicate c 0 → path′ ≡ w ++ drop (length w) path → k ≡ length w → k ≤ c → path″ ≡ zeros k ++ drop k path′ → path″ ≡ replicate c 0
+path-wiped c k w path path′ path″ e f q h d =
+    d
+    ∙ ap (λ (x : List ℕ). zeros k ++ drop k x) (f ∙ ap (λ (x : List ℕ). w ++ drop (length w) x) e)
+    ∙ ap (λ (x : List ℕ). zeros k ++ x) (drop-at w (drop (length w) (zeros c)) k (sym q) ∙ drop-zeros (length w) c)
+    ∙ replicate-append-replicate {A = ℕ} k (c - length w) 0
+    ∙ ap zeros (let z : k + (c - length w) ≡ c = omega arith in z)
+
+pub by-ripe : (p : Plan) (P : State → Type 0) → ((ls : List Extensions) (v : List (List ℕ)) (ys : List Layout) → Fresh p ls v → P (held Running true ls v ys)) → (s : State) → Ripe p s → P s
+by-ripe p P f s x = as-pending (λ s. Fresh p (s .lists) (s .visited) → P s) true f s (x .running) (x .pending) (x .fresh)
+
+module _ (t : Terms) (given : Given t) (a₀ : Store) (s : State) (r : Record) (a : Store) (h : Holds t a₀ s r a) (ripe : Ripe (planIn t) s) where
+  pub part : Part (boardIn t) (planIn t) (a₀ .lists) (a₀ .visited) s r (a .lists) (a .visited)
+  part = holds-part t a₀ s r a h
+
+  pub sums : Summed (countIn t) s r
+  sums = summed (countIn t) s r (h .rec)
+
+  on : Lines (boardIn t) true (s .lists)
+  on = subst (λ (b : Bool). Lines (boardIn t) b (s .lists)) (ripe .pending) (h .good .formed .lists)
+
+  fits : Fits (boardIn t .places) (setOn (s .lists))
+  fits = lines-fit (boardIn t) (given .sound .at) (planIn t) (given .sound .on) (given .sound .laidOut) (given .sound .six) (s .lists) on
+
+  abbrev rest : List ℕ
+  rest = behind (boardIn t) (planIn t) (t .limits) (countIn t) (fitting t given) (a₀ .lists) (a₀ .visited) s r (a .lists) (a .visited) part
+
+  pub stood : (n count : ℕ) → n ≡ r .placements → count ≡ r .lists → Stood (a .lists) n count (r .nexts) (reverse (s .lists)) rest
+  stood n count en ec =
+      subst (λ (k : ℕ). Stood (a .lists) k count (r .nexts) (reverse (s .lists)) rest) (sym (en ∙ sums .placementsAre))
+      (part-stood (boardIn t) (planIn t) (t .limits) (countIn t) (fitting t given) (a₀ .lists) (a₀ .visited) s r (a .lists) (a .visited) part (sums .pendingIs ∙ ripe .pending) count ec)
+
+  pub row-is : (n count : ℕ) → n ≡ r .placements → count ≡ r .lists → (set : List ℕ)
+      → ((ms : List Extensions) (rest : List ℕ) → Stood (a .lists) n count (r .nexts) ms rest → set ≡ row (setOn (reverse ms))) → set ≡ row (setOn (s .lists))
+  row-is n count en ec set f =
+      f (reverse (s .lists)) rest (stood n count en ec) ∙ ap (λ (ls : List Extensions). row (setOn ls)) (reverse-reverse (s .lists))
+
+  pub ready : (m : List ℕ) (k : ℕ) → m ≡ setOn (s .lists) → k ≡ countIn t → Ready (t .query) (t .groups) (t .numbers) (t .edges) (t .blockBase) (t .allowBase) (t .table) m k
+  unfolding boardOf placesOf
+  ready m k em ek =
+      subst (λ (x : List ℕ). Ready (t .query) (t .groups) (t .numbers) (t .edges) (t .blockBase) (t .allowBase) (t .table) x k) (sym em)
+      (subst (λ (j : ℕ). Ready (t .query) (t .groups) (t .numbers) (t .edges) (t .blockBase) (t .allowBase) (t .table) (setOn (s .lists)) j) (sym ek)
+      (given .ready (setOn (s .lists)) (fits .isSet) (fits .named)))
+
+  pub lists-long : 6 * countIn t ≤ length (a .lists)
+  unfolding boardOf placesOf
+  lists-long =
+      let z = length-stack (boardIn t) true (s .lists) on in
+      let w : length (s .lists) * countIn t ≤ 6 * countIn t = mul-le-mul-right (countIn t) (h .good .formed .deep) in
+      omega (arith, ap (λ (q : List ℕ). length q) (part .listsAre), length-laid (6 * countIn t) (stackOf (countIn t) (s .lists)) (a₀ .lists) (omega arith))
+
+  pub deep : r .lists ≤ 6
+  deep = omega (arith, sums .listsAre, h .good .formed .deep)
+
+  pub enter-room : (r .evaluations < 100000) × (r .evaluations * 7 + 7 ≤ length (a .visited))
+  enter-room =
+      by-ripe (planIn t) (λ s. Holds t a₀ s r a → (r .evaluations < 100000) × (r .evaluations * 7 + 7 ≤ length (a .visited)))
+      (λ ls v ys fresh h. visited-room t given a₀ ls v ys r a h fresh) s ripe h
+
+  -- ---- after the evaluation
+  module _ (x : answer.Explored) (at k : ℕ) (list path path′ : List ℕ)
+      (ev : Evaluated (explore (boardIn t) (setOn (s .lists))) x (take k (drop at (a .lists))) list path path′) where
+    abbrev o : Outcome ℕ
+    o = explore (boardIn t) (setOn (s .lists))
+
+    module _ (m : ℕ) (e : x ≡ answer.the-variants.Extend m) where
+      extends : o ≡ Extend (take m list)
+      unfolding outcomeOf
+      extends = ev .is ∙ ap (λ (x : answer.Explored). outcomeOf x list path′) e
+
+      pub extend-number : m ≡ length (take m list)
+      unfolding numberOf sizeOf
+      extend-number = sym (ap numberOf e) ∙ ev .number ∙ ap sizeOf extends
+
+      extend-listed : list ≡ take m list ++ drop (length (take m list)) (take k (drop at (a .lists)))
+      unfolding listAfter
+      extend-listed = ev .listed ∙ ap (λ (o : Outcome ℕ). listAfter o (take k (drop at (a .lists)))) extends
+
+      pub extend-path : path′ ≡ path
+      unfolding pathAfter
+      extend-path = ev .laid ∙ ap (λ (o : Outcome ℕ). pathAfter o path) extends
+
+      some-room : (length (take m list) ≡ 0 → ⊥) → (length (s .lists) < 6) × (length (take m list) ≤ countIn t)
+      some-room n =
+          by-ripe (planIn t) (λ s. Holds t a₀ s r a → explore (boardIn t) (setOn (s .lists)) ≡ Extend (take m list) → (length (s .lists) < 6) × (length (take m list) ≤ countIn t))
+          (λ ls v ys fresh h oe. extend-room t given a₀ ls v ys r a h fresh (take m list) oe n) s ripe h extends
+
+      pub push-room : (more : Record) → more ≡ enteredRec r → ((m ≡ 0 → ⊥) → more .lists < 6) × (m ≤ 6144)
+      unfolding boardOf placesOf
+      push-room more me =
+          let q = extend-number in
+          let z : more .lists ≡ r .lists = ap (λ (q : Record). q .lists) me in
+          let y = sums .listsAre in (
+            (λ n. omega (arith, some-room (λ z. n (q ∙ z)) .0)),
+            either (eqb m 0) (λ t. omega (arith, eqb-true m 0 t))
+                (λ f. omega (arith, some-room (λ z. eqb-false m 0 f (q ∙ z)) .1, given .sound .few)),
+          )
+
+    module _ (m : ℕ) (e : x ≡ answer.the-variants.Wall m) where
+      walls : o ≡ Wall (take m path′)
+      unfolding outcomeOf
+      walls = ev .is ∙ ap (λ (x : answer.Explored). outcomeOf x list path′) e
+
+      pub wall-number : m ≡ length (take m path′)
+      unfolding numberOf sizeOf
+      wall-number = sym (ap numberOf e) ∙ ev .number ∙ ap sizeOf walls
+
+      wall-list : list ≡ take k (drop at (a .lists))
+      unfolding listAfter
+      wall-list = ev .listed ∙ ap (λ (o : Outcome ℕ). listAfter o (take k (drop at (a .lists)))) walls
+
+      pub wall-path : path′ ≡ take m path′ ++ drop (length (take m path′)) path
+      unfolding pathAfter
+      wall-path = ev .laid ∙ ap (λ (o : Outcome ℕ). pathAfter o path) walls
+
+    module _ (e : x ≡ answer.the-variants.Nothing) where
+      nothings : o ≡ Nothing
+      unfolding outcomeOf
+      nothings = ev .is ∙ ap (λ (x : answer.Explored). outcomeOf x list path′) e
+
+      nothing-list : list ≡ take k (drop at (a .lists))
+      unfolding listAfter
+      nothing-list = ev .listed ∙ ap (λ (o : Outcome ℕ). listAfter o (take k (drop at (a .lists)))) nothings
+
+      pub nothing-path : path′ ≡ path
+      unfolding pathAfter
+      nothing-path = ev .laid ∙ ap (λ (o : Outcome ℕ). pathAfter o path) nothings
+
+    -- ---- what is left
+    abbrev lists′ : List ℕ
+    lists′ = take at (a .lists) ++ (list ++ drop k (drop at (a .lists)))
+
+    module _ (set : List ℕ) (se : set ≡ row (setOn (s .lists))) (more : Record) (me : more ≡ enteredRec r) (va : List ℕ) (ve : va ≡ over (a .visited) (r .evaluations * 7) set) where
+      pub arm-nothing : x ≡ answer.the-variants.Nothing → (q : Record) → LookedAt (t .limits) more q → Holds t a₀ (advance (planIn t) s) q (store lists′ va (a .layouts) (a .points))
+      arm-nothing e q look =
+          by-ripe (planIn t)
+          (λ s. Holds t a₀ s r a → explore (boardIn t) (setOn (s .lists)) ≡ Nothing → set ≡ row (setOn (s .lists))
+          → Holds t a₀ (advance (planIn t) s) q (store lists′ va (a .layouts) (a .points)))
+          (λ ls v ys fresh h oe se.
+          v-nothing t given a₀ ls v ys r a h fresh q lists′ va oe (subst (λ (m : Record). LookedAt (t .limits) m q) me look)
+          (part-same (a .lists) at k list (nothing-list e) ∙ lists-are t given a₀ ls v ys r a h fresh) (visited-put t given a₀ ls v ys r a h fresh va set ve se))
+          s ripe h (nothings e) se
+
+      pub arm-extend : (m : ℕ) → x ≡ answer.the-variants.Extend m → k ≡ countIn t → (r .lists < 6 → at ≡ r .lists * countIn t) → (u q : Record)
+          → (m ≡ 0 → u ≡ more) × ((m ≡ 0 → ⊥) → u ≡ pushedRec more m) → LookedAt (t .limits) u q → Holds t a₀ (advance (planIn t) s) q (store lists′ va (a .layouts) (a .points))
+      arm-extend m e ek ea u q ue look =
+          let num = extend-number m e in
+          by-ripe (planIn t)
+          (λ s. Holds t a₀ s r a → explore (boardIn t) (setOn (s .lists)) ≡ Extend (take m list) → set ≡ row (setOn (s .lists)) → r .lists ≡ length (s .lists)
+          → Holds t a₀ (advance (planIn t) s) q (store lists′ va (a .layouts) (a .points)))
+          (λ ls v ys fresh h oe se le.
+          v-extend t given a₀ ls v ys r a h fresh (take m list) oe u q lists′ va
+          (extend-record t given a₀ ls v ys r a h fresh (take m list) oe u
+          (λ z. ue .0 (num ∙ z) ∙ me) (λ n. ue .1 (λ z. n (sym num ∙ z)) ∙ ap (λ (u : Record). pushedRec u m) me ∙ ap (λ (j : ℕ). pushedRec (enteredRec r) j) num))
+          look
+          (extend-lists t given a₀ ls v ys r a h fresh (take m list) oe at k list ek (λ d. ea (omega arith) ∙ ap (λ (j : ℕ). j * countIn t) le) (extend-listed m e))
+          (visited-put t given a₀ ls v ys r a h fresh va set ve se))
+          s ripe h (extends m e) se (sums .listsAre)
+
+      module _ (m : ℕ) (e : x ≡ answer.the-variants.Wall m) where
+        kept : keptIn more ≡ pointsKept (s .layouts)
+        kept =
+            by-ripe (planIn t) (λ s. Holds t a₀ s r a → keptIn more ≡ pointsKept (s .layouts))
+            (λ ls v ys fresh h. kept-is (countIn t) ls (v ++ setOn ls ∷ []) ys more (me ∙ entered t given a₀ ls v ys r a h fresh)) s ripe h
+
+        -- the route has an entry of the path for each point
+        pub wall-long : m ≤ length path′
+        wall-long = omega (arith, wall-number m e, length-take m path′)
+
+        space : pointsKept (s .layouts) + m ≤ 1000000 → 2 * pointsKept (s .layouts) + 2 * m ≤ pointsLength (inputsIn t) (t .limits)
+        space k =
+            let num = wall-number m e in
+            by-ripe (planIn t)
+            (λ s. Holds t a₀ s r a → explore (boardIn t) (setOn (s .lists)) ≡ Wall (take m path′) → pointsKept (s .layouts) + m ≤ 1000000
+            → 2 * pointsKept (s .layouts) + 2 * m ≤ pointsLength (inputsIn t) (t .limits))
+            (λ ls v ys fresh h oe k. omega (arith, wall-room t given a₀ ls v ys r a h fresh (take m path′) oe (omega arith))) s ripe h (walls m e) k
+
+        named : (i : ℕ) → i < m → getD path′ i 0 < centres (t .query .window)
+        unfolding boardOf inputsOf
+        named i k =
+            wall-inside (boardIn t) (given .sound .laidOut) (setOn (s .lists)) (take m path′) (walls m e) (getD path′ i 0)
+            (subst (λ (c : ℕ). List·Memᴰ c (take m path′)) (getD-take m path′ i 0 k) (getD-member (take m path′) i 0 (omega (arith, wall-number m e))))
+
+        pub listable : length path′ ≡ centres (t .query .window) → Listable more (t .query .window) (a .layouts) (a .points) path′ m
+        unfolding planOf
+        listable lp =
+            let z : more .layouts ≡ length (s .layouts) = ap (λ (q : Record). q .layouts) me ∙ sums .layoutsAre in
+            let low : length (s .layouts) < t .limits .results = h .good .limits .running (ripe .running) in
+            let ke = kept in
+            let f = length-flat (λ (y : Layout). row (y .members)) 7 (s .layouts) (λ y m. length-row (y .members) (h .good .formed .listed y m .row .six)) in
+            record {
+              few = omega (arith, given .sound .results);
+              room = omega (arith, ap (λ (q : List ℕ). length q) (layouts-are t a₀ s r a h), length-laid (7 * t .limits .results) (flat (map (λ (y : Layout). row (y .members)) (s .layouts))) (a₀ .layouts) (omega arith));
+              fits = given .fits;
+              kept = omega (arith, h .good .limits .points);
+              short = omega (arith, wall-long, framed 8192 8192 (t .query .window) (given .fits) .few);
+              long = wall-long;
+              named = named;
+              space = λ k.
+                  omega (
+                    arith,
+                    ap (λ (q : List ℕ). length q) (points-are t a₀ s r a h),
+                    length-laid (pointsLength (inputsIn t) (t .limits)) (flat (map (λ (y : Layout). numbers (y .route)) (s .layouts))) (a₀ .points) (omega (arith, length-kept (s .layouts), points-fit t s (h .good))),
+                    space (omega arith),
+                  );
+            }
+
+        pub arm-wall : (q : Record) (ya pa path″ : List ℕ) → Listing (t .limits) more (t .query .window) set m path′ q (a .layouts) (a .points) ya pa path″
+            → Holds t a₀ (advance (planIn t) s) q (store lists′ va ya pa)
+        arm-wall q ya pa path″ l =
+            let num = wall-number m e in
+            by-ripe (planIn t)
+            (λ s. Holds t a₀ s r a → explore (boardIn t) (setOn (s .lists)) ≡ Wall (take m path′) → set ≡ row (setOn (s .lists)) → keptIn more ≡ pointsKept (s .layouts)
+            → Holds t a₀ (advance (planIn t) s) q (store lists′ va ya pa))
+            (λ ls v ys fresh h oe se ke.
+            let le = part-same (a .lists) at k list (wall-list m e) ∙ lists-are t given a₀ ls v ys r a h fresh in
+            let we = visited-put t given a₀ ls v ys r a h fresh va set ve se in
+            either (leb (keptIn more + m) 1000000)
+            (λ i.
+            let d = l .listed (leb-true (keptIn more + m) 1000000 i) in
+            let z : more .layouts ≡ r .layouts = ap (λ (q : Record). q .layouts) me in
+            v-wall t given a₀ ls v ys r a h fresh (take m path′) oe (let b = leb-true (keptIn more + m) 1000000 i in omega arith) q lists′ va ya pa set m num
+            (subst (λ (u : Record). LookedAt (t .limits) (listedRec u m) q) me (d .0)) le we se
+            (d .1 ∙ ap (λ (j : ℕ). over (a .layouts) (j * 7) set) z) (keptIn more) ke (d .2))
+            (λ f.
+            let d = l .full (leb-false (keptIn more + m) 1000000 f) in
+            let full = v-full t given a₀ ls v ys r a h fresh (take m path′) oe lists′ va (let b = leb-false (keptIn more + m) 1000000 f in omega arith) le we in
+            subst (λ (u : Record). Holds t a₀ (advance (planIn t) (held Running true ls v ys)) u (store lists′ va ya pa)) (sym (d .0 ∙ ap (λ (u : Record). stopRec u 4) me))
+            (subst (λ (u : List ℕ). Holds t a₀ (advance (planIn t) (held Running true ls v ys)) (stopRec (enteredRec r) 4) (store lists′ va u pa)) (sym (d .1))
+            (subst (λ (u : List ℕ). Holds t a₀ (advance (planIn t) (held Running true ls v ys)) (stopRec (enteredRec r) 4) (store lists′ va (a .layouts) u)) (sym (d .2)) full))))
+            s ripe h (walls m e) se kept
+
+pub stood-some : (t : Terms) (given : Given t) (a₀ : Store) (s : State) (r : Record) (a : Store) (h : Holds t a₀ s r a) (ripe : Ripe (planIn t) s) (n count : ℕ) → n ≡ r .placements → count ≡ r .lists
+    → SomeStood (a .lists) n count (r .nexts)
+unfolding boardOf placesOf
+stood-some t given a₀ s r a h ripe n count en ec = record {
+  small = omega (arith, given .sound .few, sums t given a₀ s r a h ripe .placementsAre);
+  ms = reverse (s .lists);
+  rest = rest t given a₀ s r a h ripe;
+  stood = stood t given a₀ s r a h ripe n count en ec;
+}
+
+module _ (t : Terms) (given : Given t) (a₀ : Store) (s : State) (r : Record) (a : Store) (h : Holds t a₀ s r a) (ripe : Ripe (planIn t) s) (set : List ℕ) (se : set ≡ row (setOn (s .lists))) where
+  pub small-set : length (setOn (s .lists)) ≤ 6
+  small-set = omega (arith, length-setOn (s .lists), h .good .formed .deep)
+
+  pub set-size : (getD set 0 0 ≤ 6) × (length set ≡ 7)
+  set-size = (
+    omega (arith, ap (λ (l : List ℕ). getD l 0 0) se, row-head (setOn (s .lists)), small-set),
+    ap (λ (l : List ℕ). length l) se ∙ length-row (setOn (s .lists)) small-set,
+  )
+
+  pub members-are : (j : ℕ) → j ≡ getD set 0 0 → take (j + 1 - 1) (drop 1 set) ≡ setOn (s .lists)
+  members-are j e = members-of (setOn (s .lists)) set (j + 1) se small-set (omega arith)
+
+  pub evaluated-as : (j : ℕ) → j ≡ getD set 0 0 → (x : answer.Explored) (p p′ q q′ : List ℕ)
+      → Evaluated (explore (boardIn t) (take (j + 1 - 1) (drop 1 set))) x p p′ q q′ → Evaluated (explore (boardIn t) (setOn (s .lists))) x p p′ q q′
+  evaluated-as j e x p p′ q q′ v = subst (λ (m : List ℕ). Evaluated (explore (boardIn t) m) x p p′ q q′) (members-are j e) v
+
+-- the place of the list to be made
+pub place-long : (l : List ℕ) (at n c : ℕ) → n ≡ c → at + n ≤ 6 * n → 6 * c ≤ length l → length (take (at + n - at) (drop at l)) ≡ c
+place-long l at n c e h k = omega (arith, length-take (at + n - at) (drop at l), length-drop at l)
+
+pub place-at : (at n c : ℕ) → n ≡ c → at + n - at ≡ c
+place-at at n c e = omega arith
+
+pub place-is : (t : Terms) (given : Given t) (a₀ : Store) (s : State) (r : Record) (a : Store) (h : Holds t a₀ s r a) (ripe : Ripe (planIn t) s) (at n count : ℕ) → count ≡ r .lists → n ≡ countIn t
+    → (count < 6 → at ≡ count * n) → r .lists < 6 → at ≡ r .lists * countIn t
+place-is t given a₀ s r a h ripe at n count ec en f k = f (omega arith) ∙ ap₂ _*_ ec en
+
+pub path-long : (c : ℕ) (path : List ℕ) → path ≡ replicate c 0 → length path ≡ c
+path-long c path e = ap (λ (q : List ℕ). length q) e ∙ length-zeros c
+
+pub route-inside : (c m : ℕ) (path : List ℕ) → m ≡ length (take m path) → length path ≡ c → m ≤ c
+route-inside c m path e l = omega (arith, length-take m path)

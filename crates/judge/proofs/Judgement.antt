@@ -1,0 +1,85 @@
+-- What judging comes to, and the working areas that it leaves.
+use Prim.Native.Nat.{ℕ, _/_, _≤_}
+use mathlib.Core.Path.{_≡_, sym, ap, _∙_}
+use mathlib.Core.Option.{none, some}
+use mathlib.Core.List.{List, [], _++_}
+use native.Mathlib.Omega.{arith}
+use lib.IntN.{ℤ}
+use lib.ListN.{length, take, drop, replicate, length-take, length-replicate, take-append-drop}
+use lib.Seq.{take-at}
+use Rattle.model.specs.Answers.{Said, first}
+use Rattle.model.specs.declared.Rect.{Rect}
+use Rattle.model.specs.declared.Query.{Query}
+use Rattle.rects.specs.Windows.{centres}
+use Rattle.routes.specs.Edges.{Step, eightSteps, stepsOf, eachOnce}
+use Rattle.routes.proofs.StepLaws.{eight-once}
+use Rattle.layouts.specs.Inputs.{Inputs, boardOf}
+use Rattle.layouts.specs.Judge.{verdict, groundLeft}
+use Rattle.calls.specs.Areas.{Work, workIn, laid, cleared}
+use Rattle.calls.specs.Calls.{Judgement, refuses, judges, judgeChecks, judgeCall}
+use Rattle.clearing.proofs.Cleared.{laid-none}
+use Rattle.explore.specs.Ready.{Ready}
+use Rattle.explore.proofs.Extending.{named-rows}
+use Rattle.verdict.specs.Flags.{Counted}
+use Rattle.judge.specs.Chosen.{Chosen, Clean, Same}
+
+-- ---- the answer
+module _ (steps : List Step) (i : Inputs) (s : List ℕ) (w : Work) where
+  pub judge-refused : {e : Said} → first (judgeChecks i s w) ≡ some e → judgeCall steps i s w ≡ record { answer = refuses e; work = w }
+  unfolding judgeCall
+  judge-refused h = rw (judgeCall, h)
+
+  pub judge-accepted : first (judgeChecks i s w) ≡ none → (j : Judgement) → j ≡ judges (verdict (boardOf steps i) s) (groundLeft (boardOf steps i) s)
+      → (w′ : Work) → w′ ≡ cleared (i .query .window) w → judgeCall steps i s w ≡ record { answer = j; work = w′ }
+  unfolding judgeCall
+  judge-accepted h j e w′ f = rw (judgeCall, h, e, f)
+
+-- ---- what the verdict and the count ask
+pub ready : {q : Query} {groups numbers : List ℕ} {edges : List ℤ} {blockBase allowBase set : List ℕ} → Chosen q groups numbers edges blockBase allowBase set
+    → (steps : List ℤ) → stepsOf steps ≡ eightSteps → Ready q groups numbers edges blockBase allowBase steps set (length numbers / 4)
+ready c steps e = record {
+  fits = c .fits;
+  startIn = c .startIn;
+  endIn = c .endIn;
+  slim = c .slim;
+  bytes = c .bytes;
+  allowed = c .allowed;
+  rows = c .rows;
+  once = ap eachOnce e ∙ eight-once;
+  rising = c .rising;
+}
+
+pub counted : {q : Query} {groups numbers : List ℕ} {edges : List ℤ} {blockBase allowBase set map : List ℕ}
+    → Chosen q groups numbers edges blockBase allowBase set → map ≡ replicate (centres (q .window)) 0 → Counted q edges blockBase set map
+counted c e = record { fits = c .fits; slim = c .slim; bytes = c .bytes; named = named-rows (c .rows); clear = e }
+
+-- ---- the areas
+take-laid : (n : ℕ) (area area′ : List ℕ) → area′ ≡ laid n [] area → take n area′ ≡ replicate n 0
+take-laid n area area′ e = ap (take n) (e ∙ laid-none n area) ∙ take-at (replicate n 0) (drop n area) n (length-replicate {A = ℕ} n 0)
+
+pub clean-work : (w : Rect) (a b : Work) → b ≡ cleared w a → Clean (centres w) (b .map) (b .queue) (b .predecessors) (b .route)
+unfolding cleared
+clean-work w a b e = record {
+  mapClear = take-laid (centres w) (a .map) (b .map) (ap (λ (x : Work). x .map) e);
+  queueClear = take-laid (centres w) (a .queue) (b .queue) (ap (λ (x : Work). x .queue) e);
+  previousClear = take-laid (centres w) (a .predecessors) (b .predecessors) (ap (λ (x : Work). x .predecessors) e);
+  pathClear = take-laid (centres w) (a .route) (b .route) (ap (λ (x : Work). x .route) e);
+}
+
+pub same-work : {counts : List ℤ} {map queue previous path map′ queue′ previous′ path′ : List ℕ} → Same map queue previous path map′ queue′ previous′ path′
+    → workIn counts map′ queue′ previous′ path′ ≡ workIn counts map queue previous path
+same-work {counts} s = λ j. record { counts = counts; map = s .mapSame j; queue = s .queueSame j; predecessors = s .previousSame j; route = s .pathSame j }
+
+-- a part of n entries that is zero before and after, where n is c
+module _ (n c : ℕ) (e : n ≡ c) (area : List ℕ) (clear : take c area ≡ replicate c 0) where
+  pub part-fits : n ≤ length area
+  part-fits = omega (arith, ap (λ (x : List ℕ). length x) clear, length-take c area, length-replicate {A = ℕ} c 0)
+
+  pub part-size : n ≡ length (take n area)
+  part-size = omega (arith, part-fits, length-take n area)
+
+  pub part-clear : take n area ≡ replicate c 0
+  part-clear = ap (λ (k : ℕ). take k area) e ∙ clear
+
+  pub part-back : (part : List ℕ) → part ≡ replicate c 0 → part ++ drop n area ≡ area
+  part-back part f = ap (λ (x : List ℕ). x ++ drop n area) (f ∙ sym part-clear) ∙ take-append-drop n area

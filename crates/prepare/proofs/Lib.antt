@@ -1,0 +1,3 @@
+pub mod Refusing
+pub mod Preparing
+pub mod Marking

@@ -1,0 +1,93 @@
+-- What is carried through a list of calls: record and store are those of the begun search after some number of evaluations. A refused call and a reading leave
+-- them as they were; an accepted step reads back the search that was laid out and lays out the search after so many evaluations more.
+use Prim.Native.Nat.{ℕ, _+_}
+use mathlib.Core.Path.{_≡_, refl, sym, _∙_, ap, subst}
+use mathlib.Core.Bool.{true}
+use mathlib.Core.Option.{Option, none, some}
+use mathlib.Core.List.{List}
+use lib.ListN.{length}
+use Rattle.model.specs.Answers.{Said, first}
+use Rattle.model.specs.declared.Limits.{Limits}
+use Rattle.rects.specs.Windows.{positionOf}
+use Rattle.routes.specs.Edges.{Step, eachOnce}
+use Rattle.layouts.specs.Inputs.{Inputs, boardOf}
+use Rattle.layouts.proofs.Laid.{laid-board}
+use Rattle.search.specs.State.{State}
+use Rattle.search.specs.Frames.{step, begun}
+use Rattle.search.proofs.Steps.{step-add}
+use Rattle.search.proofs.Exhaustive.{Exact, search-exact}
+use Rattle.search.proofs.Formed.{Good, begun-good}
+use Rattle.calls.specs.Areas.{Work, Store, stateOf, recordOf, storeOf}
+use Rattle.calls.specs.Calls.{beginCall, planOf, stepChecks, stepCall}
+use Rattle.calls.proofs.StepLaws.{Fair, keeps, step-passed, left, step-checks, step-is, left-reads, begin-is, begin-accepted}
+use Rattle.promise.specs.Promise.{Call, stepping, reading, Held, leaves, after, Faithful, answerTo, inputsIn, limitsIn}
+
+module _ (steps : List Step) (once : eachOnce steps ≡ true) (i : Inputs) (l : Limits) where
+  -- the begun search after n evaluations
+  abbrev pub searched : ℕ → State
+  searched n = step (planOf steps i l) n begun
+
+  abbrev pub shown : State → Store → Held
+  shown s a = record { rec = recordOf (length (i .places)) s; store = storeOf i l s a }
+
+  pub record Carried (h : Held) : Type 0 where
+    pub evaluations : ℕ
+    pub over : Store
+    pub same : h ≡ shown (searched evaluations) over
+
+  module _ (fair : Fair i l) where
+    pub good : (n : ℕ) → Good (boardOf steps i) (planOf steps i l) (searched n)
+    unfolding planOf
+    good n = keeps steps once i l fair n begun (begun-good (boardOf steps i) (planOf steps i l) (fair .some))
+
+    pub exact : (n : ℕ) → Exact (boardOf steps i) (positionOf (i .query .window)) (searched n)
+    unfolding planOf
+    exact n =
+        search-exact (boardOf steps i) (positionOf (i .query .window)) (planOf steps i l) (record { evaluates = λ s. refl })
+        (laid-board steps i once (fair .startIn) (fair .endIn)) n
+
+    -- ---- one call
+    stepped : (h : Held) (n : ℕ) (work : Work) → first (stepChecks i l (h .rec) work (h .store)) ≡ none → Carried h
+        → Carried (after steps h (stepping i l n work))
+    unfolding after leaves left
+    stepped h n work e v =
+        let s = searched (v .evaluations) in
+        let p = planOf steps i l in
+        let read = ap (λ (x : Held). stateOf (x .rec) (x .store)) (v .same) ∙ left-reads steps once i l s (good (v .evaluations)) work (v .over) in
+        record {
+          evaluations = v .evaluations + n;
+          over = h .store;
+          same = ap leaves (step-is steps once i l (h .rec) work (h .store) e n)
+              ∙ ap (λ (t : State). shown (step p n t) (h .store)) read
+              ∙ ap (λ (t : State). shown t (h .store)) (sym (step-add p (v .evaluations) n begun));
+        }
+
+    refused : (h : Held) (j : Inputs) (m : Limits) (n : ℕ) (work : Work) (r : Said)
+        → first (stepChecks j m (h .rec) work (h .store)) ≡ some r → after steps h (stepping j m n work) ≡ h
+    unfolding after leaves stepCall
+    refused h j m n work r e = rw (after, stepCall, e) refl
+
+    pub carries : (h : Held) (c : Call) → Faithful steps i l h c → Carried h → Carried (after steps h c)
+    unfolding after Faithful answerTo inputsIn limitsIn stepCall
+    carries h (reading j m k) f v = v
+    carries h (stepping j m n work) f v = go (first (stepChecks j m (h .rec) work (h .store))) refl
+      where
+        go : (o : Option Said) → first (stepChecks j m (h .rec) work (h .store)) ≡ o → Carried (after steps h (stepping j m n work))
+        go (some r) e = subst Carried (sym (refused h j m n work r e)) v
+        go none e =
+            let b = f (rw (answerTo, stepCall, e) refl) in
+            subst (λ (x : Inputs). first (stepChecks x m (h .rec) work (h .store)) ≡ none → Carried (after steps h (stepping x m n work))) (sym (b .0))
+            (subst (λ (y : Limits). first (stepChecks i y (h .rec) work (h .store)) ≡ none → Carried (after steps h (stepping i y n work))) (sym (b .1))
+            (λ q. stepped h n work q v)) e
+
+  -- ---- begin
+  module _ (work : Work) (store : Store) (yes : beginCall steps i l work store .answer ≡ none) where
+    pub begin-fair : Fair i l
+    begin-fair =
+        let a = beginCall steps i l work store in
+        let e = step-checks steps once i l (a .rec) (a .work) (a .store) 0 (begin-accepted steps once i l work store yes 0) in
+        step-passed steps once i l (a .rec) (a .work) (a .store) e .fair
+
+    pub begin-carried : Carried (leaves (beginCall steps i l work store))
+    unfolding leaves left step
+    begin-carried = record { evaluations = 0; over = store; same = ap leaves (begin-is steps once i l work store yes) }

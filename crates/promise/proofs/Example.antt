@@ -1,0 +1,164 @@
+-- A search begun, stepped in portions, refused in between and read, and its return drive, computed by the checker: the claim is about searches that exist.
+use Prim.Native.Nat.{ℕ}
+use mathlib.Core.Path.{_≡_, refl, sym}
+use mathlib.Core.Logic.{_↔_}
+use mathlib.Core.Option.{Option, none, some, Option·none-ne-some}
+use mathlib.Core.List.{List, [], _∷_, map}
+use Rattle.laws.specs.Lists.{below}
+use Rattle.model.specs.Answers.{Said, refusal}
+use Rattle.model.specs.declared.Allow.the-variants.{Bounded}
+use Rattle.model.specs.declared.Limits.{Limits}
+use Rattle.routes.specs.Edges.{eightSteps}
+use Rattle.routes.proofs.StepLaws.{eight-once}
+use Rattle.layouts.specs.Inputs.{Inputs, exchanged}
+use Rattle.calls.specs.Calls.{beginCall, readCall}
+use Rattle.calls.proofs.Computing.{computing}
+use Rattle.calls.proofs.Drive.{at, box, bounds, plain, limits, workFor, storeFor, still0, onOpenCell, inputsOf, driving}
+use Rattle.promise.specs.Promise.{
+  Call,
+  stepping,
+  reading,
+  inputsIn,
+  limitsIn,
+  Held,
+  leaves,
+  layoutAt,
+  Listed,
+  HasExhausted,
+  answerTo,
+  after,
+  run,
+  Along,
+  Faithful,
+  Search,
+  begins,
+  ends,
+  Promise,
+}
+use Rattle.promise.proofs.Kept.{promise}
+
+-- The blocked mover reaches one pixel up, so that either place shuts it out of both rows left to it; the allowed mover gets by in the last row.
+unfoldable i : Inputs
+i = inputsOf (onOpenCell (box 0 0 5 3) (at 0 1) (at 4 1) (bounds 0 1 0 0) (Bounded still0) (limits 10 4) (1 ∷ [])
+    (plain (box 2 0 3 2) ∷ plain (box 1 0 2 2) ∷ []))
+
+-- another search's inputs: no places
+unfoldable other : Inputs
+other = inputsOf (onOpenCell (box 0 0 5 3) (at 0 1) (at 4 1) still0 (Bounded still0) (limits 10 4) [] [])
+
+-- one search's own step and reading
+unfoldable stepBy : Inputs → Limits → ℕ → Call
+stepBy j l n = stepping j l n (workFor (box 0 0 5 3))
+
+unfoldable beginOn : Inputs → Limits → Held
+beginOn j l = leaves (beginCall eightSteps j l (workFor (box 0 0 5 3)) (storeFor j l))
+
+-- ---- what the calls of a list say
+data Told : Type 0 where
+  refused : Said → Told
+  stands : (reason evaluations layouts : ℕ) → Told
+  reads : List ℕ → Told
+
+unfoldable told : Held → Call → Option Said → Told
+told h c (some r) = refused r
+told h (stepping j m n work) none = let t : Held = after eightSteps h (stepping j m n work) in stands (t .rec .reason) (t .rec .evaluations) (t .rec .layouts)
+told h (reading j m k) none = reads (readCall j m (h .rec) k (h .store) .points)
+
+unfoldable tells : Held → List Call → List Told
+tells h [] = []
+tells h (c ∷ cs) = told h c (answerTo eightSteps h c) ∷ tells (after eightSteps h c) cs
+
+unfoldable without : ℕ → Told
+without n = refused (refusal n)
+
+unfoldable listing : Held → List (List ℕ)
+listing h = map (layoutAt h) (below (h .rec .layouts))
+
+-- a name under which all of this unfolds
+unfoldable promising : ℕ
+unfolding computing driving exchanged inputsIn limitsIn leaves layoutAt HasExhausted answerTo after run Along
+    Faithful begins ends i other stepBy beginOn told tells
+    without listing
+promising = 0
+
+-- ---- out: a reading before anything is listed, a step on another search's inputs, a reading with limits past 32
+unfoldable l : Limits
+l = limits 10 4
+
+unfoldable outCalls : List Call
+outCalls =
+    stepBy i l 1 ∷ reading i l 0 ∷ stepBy other l 1 ∷ stepBy i l 1 ∷ reading i l 0 ∷ reading i (limits 10 33) 0 ∷ stepBy i l 7 ∷ reading i l 1 ∷ []
+
+out-told : tells (beginOn i l) outCalls
+    ≡ stands 1 1 0 ∷ without 17 ∷ without 16 ∷ stands 1 2 1 ∷ reads (0 ∷ 1 ∷ 1 ∷ 2 ∷ 2 ∷ 2 ∷ 3 ∷ 2 ∷ 4 ∷ 1 ∷ []) ∷ without 12 ∷ stands 2 3 2
+    ∷ reads (0 ∷ 1 ∷ 0 ∷ 2 ∷ 1 ∷ 2 ∷ 2 ∷ 2 ∷ 3 ∷ 2 ∷ 4 ∷ 1 ∷ []) ∷ []
+unfolding promising l outCalls
+out-told = refl
+
+unfoldable out : Search eightSteps i l
+unfolding promising l outCalls
+out = record {
+  work = workFor (box 0 0 5 3);
+  store = storeFor i l;
+  accepted = refl;
+  calls = outCalls;
+  faithful = (
+    (λ e. (refl, refl)),
+    (
+      (λ e. (refl, refl)),
+      (
+        (λ e. absurd (Option·none-ne-some (refusal 16) (sym e))),
+        (
+          (λ e. (refl, refl)),
+          (
+            (λ e. (refl, refl)),
+            (
+              (λ e. absurd (Option·none-ne-some (refusal 12) (sym e))),
+              ((λ e. (refl, refl)), ((λ e. (refl, refl)), tt)),
+            ),
+          ),
+        ),
+      ),
+    ),
+  );
+}
+
+out-exhausted : HasExhausted (ends eightSteps out)
+unfolding promising l outCalls out
+out-exhausted = refl
+
+out-kept : Promise eightSteps i l out
+out-kept = promise eightSteps eight-once i l out
+
+-- ---- back: from end to start, with other limits
+unfoldable m : Limits
+m = limits 5 3
+
+unfoldable backCalls : List Call
+backCalls = stepBy (exchanged i) m 2 ∷ stepBy i (limits 0 3) 1 ∷ stepBy (exchanged i) m 3 ∷ reading (exchanged i) m 0 ∷ []
+
+back-told : tells (beginOn (exchanged i) m) backCalls ≡ stands 1 2 1 ∷ without 11 ∷ stands 2 3 2 ∷ reads (4 ∷ 1 ∷ 3 ∷ 2 ∷ 2 ∷ 2 ∷ 1 ∷ 2 ∷ 0 ∷ 1 ∷ []) ∷ []
+unfolding promising m backCalls
+back-told = refl
+
+unfoldable back : Search eightSteps (exchanged i) m
+unfolding promising m backCalls
+back = record {
+  work = workFor (box 0 0 5 3);
+  store = storeFor (exchanged i) m;
+  accepted = refl;
+  calls = backCalls;
+  faithful = ((λ e. (refl, refl)), ((λ e. absurd (Option·none-ne-some (refusal 11) (sym e))), ((λ e. (refl, refl)), ((λ e. (refl, refl)), tt))));
+}
+
+back-exhausted : HasExhausted (ends eightSteps back)
+unfolding promising m backCalls back
+back-exhausted = refl
+
+-- both list (0) and (1)
+listings : (listing (ends eightSteps out) ≡ (0 ∷ []) ∷ (1 ∷ []) ∷ []) × (listing (ends eightSteps back) ≡ (0 ∷ []) ∷ (1 ∷ []) ∷ [])
+unfolding promising l m outCalls backCalls out back
+listings = (refl, refl)
+
+same-listed : (set : List ℕ) → Listed (ends eightSteps out) set ↔ Listed (ends eightSteps back) set
+same-listed = out-kept .return m back out-exhausted back-exhausted

@@ -1,0 +1,122 @@
+-- Demand 3, one claim about a whole list of calls: after an accepted begin and any list of steps and readings, every layout is a wall, none is listed twice,
+-- every accepted reading has handed back the allowed mover's route, and if the reason is then Exhausted the layouts are exactly the walls.
+use Prim.Native.Nat.{ℕ, _<_}
+use mathlib.Core.Path.{_≡_}
+use mathlib.Core.Logic.{_↔_}
+use mathlib.Core.Option.{Option, none, some}
+use mathlib.Core.List.{List, [], _∷_, map}
+use Rattle.model.specs.Answers.{Said}
+use Rattle.model.specs.declared.Limits.{Limits}
+use Rattle.model.specs.declared.Record.{Record}
+use Rattle.rects.specs.Windows.{positionOf}
+use Rattle.routes.specs.Edges.{Step}
+use Rattle.routes.specs.Roads.{Road}
+use Rattle.layouts.specs.Boards.{Mover, leavesOpen, routePast}
+use Rattle.layouts.specs.Inputs.{Inputs, exchanged, boardOf}
+use Rattle.layouts.specs.Walls.{IsWall}
+use Rattle.search.specs.State.{Exhausted}
+use Rattle.calls.specs.Areas.{Work, Store, numberOf, rowOf, numbers}
+use Rattle.calls.specs.Calls.{After, beginCall, stepCall, readCall}
+
+-- ---- calls after begin
+-- A step by n or a reading of layout k, with all that it brings of its own. Record and store are what the call before it left.
+pub data Call : Type 0 where
+  stepping : Inputs → Limits → (n : ℕ) → Work → Call
+  reading : Inputs → Limits → (k : ℕ) → Call
+
+unfoldable pub inputsIn : Call → Inputs
+inputsIn (stepping i l n work) = i
+inputsIn (reading i l k) = i
+
+unfoldable pub limitsIn : Call → Limits
+limitsIn (stepping i l n work) = l
+limitsIn (reading i l k) = l
+
+-- ---- what a call leaves
+pub record Held : Type 0 where
+  pub rec : Record
+  pub store : Store
+
+unfoldable pub leaves : After → Held
+leaves a = record { rec = a .rec; store = a .store }
+
+-- the layouts are the first rows of the layouts area, as many as the record's layout number says
+unfoldable pub layoutAt : Held → ℕ → List ℕ
+layoutAt h k = rowOf (h .store .layouts) k
+
+pub record Listed (h : Held) (s : List ℕ) : Type 0 where
+  pub at : ℕ
+  pub among : at < h .rec .layouts
+  pub same : layoutAt h at ≡ s
+
+unfoldable pub HasExhausted : Held → Type 0
+HasExhausted h = h .rec .reason ≡ numberOf Exhausted
+
+module _ (steps : List Step) where
+  unfoldable pub answerTo : Held → Call → Option Said
+  answerTo h (stepping i l n work) = stepCall steps i l (h .rec) n work (h .store) .answer
+  answerTo h (reading i l k) = readCall i l (h .rec) k (h .store) .answer
+
+  -- reading alters nothing
+  unfoldable pub after : Held → Call → Held
+  after h (stepping i l n work) = leaves (stepCall steps i l (h .rec) n work (h .store))
+  after h (reading i l k) = h
+
+  -- each call on what the call before it left
+  unfoldable pub run : Held → List Call → Held
+  run h [] = h
+  run h (c ∷ cs) = run (after h c) cs
+
+  -- P holds of every call of the list, at its place: of what the calls before it left, and of the call
+  unfoldable pub Along : (Held → Call → Type 0) → Held → List Call → Type 0
+  Along P h [] = Unit {0}
+  Along P h (c ∷ cs) = P h c × Along P (after h c) cs
+
+  -- an accepted call has these inputs and limits; a refused one may bring others
+  unfoldable pub Faithful : Inputs → Limits → Held → Call → Type 0
+  Faithful i l h c = answerTo h c ≡ none → (inputsIn c ≡ i) × (limitsIn c ≡ l)
+
+  -- an accepted begin, over any areas, and any list of calls after it
+  pub record Search (i : Inputs) (l : Limits) : Type 0 where
+    pub work : Work
+    pub store : Store
+    pub accepted : beginCall steps i l work store .answer ≡ none
+    pub calls : List Call
+    pub faithful : Along (Faithful i l) (leaves (beginCall steps i l work store)) calls
+
+  module _ {i : Inputs} {l : Limits} (s : Search i l) where
+    unfoldable pub begins : Held
+    begins = leaves (beginCall steps i l (s .work) (s .store))
+
+    unfoldable pub ends : Held
+    ends = run begins (s .calls)
+
+  -- ---- readings
+  -- the points are those of the mover's route past the wall, in map pixels; the route leads from start to end over centres that the wall leaves open to it
+  pub record RouteGiven (i : Inputs) (m : Mover) (wall points : List ℕ) : Type 0 where
+    pub route : List ℕ
+    pub found : routePast (boardOf steps i) m wall ≡ some route
+    pub road : Road (boardOf steps i .edges) (boardOf steps i .nodes) (leavesOpen m wall) (boardOf steps i .start) (boardOf steps i .end) route
+    pub given : points ≡ numbers (map (positionOf (i .query .window)) route)
+
+  -- the allowed mover's route past the wall, or nothing if there is no allowed mover
+  unfoldable pub HandsBack : Inputs → Option Mover → (wall points : List ℕ) → Type 0
+  HandsBack i none wall points = points ≡ []
+  HandsBack i (some m) wall points = RouteGiven i m wall points
+
+  -- an accepted reading of layout k hands that back for the wall that stands there
+  unfoldable pub Reads : Inputs → Held → Call → Type 0
+  Reads i h (stepping j m n work) = Unit {0}
+  Reads i h (reading j m k) =
+      readCall j m (h .rec) k (h .store) .answer ≡ none
+      → IsWall (boardOf steps i) (layoutAt h k) × HandsBack i (boardOf steps i .allow) (layoutAt h k) (readCall j m (h .rec) k (h .store) .points)
+
+  -- ---- the claim
+  pub record Promise (i : Inputs) (l : Limits) (s : Search i l) : Type 0 where
+    pub walls : (k : ℕ) → k < ends s .rec .layouts → IsWall (boardOf steps i) (layoutAt (ends s) k)
+    pub once : (j k : ℕ) → j < ends s .rec .layouts → k < ends s .rec .layouts → layoutAt (ends s) j ≡ layoutAt (ends s) k → j ≡ k
+    pub readings : Along (Reads i) (begins s) (s .calls)
+    pub exhausted : HasExhausted (ends s) → (set : List ℕ) → IsWall (boardOf steps i) set ↔ Listed (ends s) set
+    -- the search from end to start, with limits, areas and calls of its own
+    pub return : (m : Limits) (t : Search (exchanged i) m) → HasExhausted (ends s) → HasExhausted (ends t)
+        → (set : List ℕ) → Listed (ends s) set ↔ Listed (ends t) set

@@ -1,0 +1,1 @@
+// What the calls promise together: definitions and proofs alone.

@@ -1,0 +1,5 @@
+pub mod Stores
+pub mod Blocks
+pub mod Sets
+pub mod Stacks
+pub mod Points

@@ -1,0 +1,162 @@
+-- What a store does to an area whose used entries are followed by zeros: `padded-put` writes at the end of what is used, `padded-trail` takes zeros at the
+-- end of the used entries for unused ones. A loop that stores a row entry by entry stores it whole.
+use Prim.Native.Nat.{ℕ, zero, suc, _+_, _-_, _≤_, _<_}
+use mathlib.Core.Path.{_≡_, refl, sym, _∙_, ap, subst}
+use mathlib.Core.List.{List, [], _∷_, _++_, append-assoc, append-nil}
+use native.Mathlib.Omega.{arith}
+use native.Mathlib.Numerals.{add-one}
+use lib.ListN.{length, take, drop, getD, set, length-append, length-replicate, getD-replicate, replicate-append-replicate, length-set}
+use lib.Seq.{take-append-seam, drop-append-add, drop-append-le, drop-at, take-at, getD-at, append-snoc, set-split, take-length, take-suc, paste, paste-zero, paste-suc, length-paste, drop-drop}
+use Rattle.laws.specs.Lists.{padded, total}
+use Rattle.laws.proofs.Lists.{sum-append}
+use Rattle.rows.specs.Lay.{zeros, over}
+
+pub length-zeros : (n : ℕ) → length (zeros n) ≡ n
+length-zeros n = length-replicate {A = ℕ} n 0
+
+pub drop-zeros : (d a : ℕ) → drop d (zeros a) ≡ zeros (a - d)
+drop-zeros zero a = ap zeros (let z : a ≡ a - 0 = omega arith in z)
+drop-zeros (suc d) zero = ap zeros (let z : 0 ≡ 0 - suc d = omega arith in z)
+drop-zeros (suc d) (suc a) = drop-zeros d a ∙ ap zeros (let z : a - d ≡ suc a - suc d = omega arith in z)
+
+pub length-padded : (n : ℕ) (xs : List ℕ) → length xs ≤ n → length (padded n xs) ≡ n
+unfolding padded
+length-padded n xs h = omega (arith, length-append xs (zeros (n - length xs)), length-zeros (n - length xs))
+
+pub padded-none : (n : ℕ) → padded n [] ≡ zeros n
+unfolding padded
+padded-none n = ap zeros (let z : n - 0 ≡ n = omega arith in z)
+
+module _ (n : ℕ) (xs ys zs rest : List ℕ) where
+  -- the entries from the end of xs on are stored anew: one more entry, a row, or the last entry changed
+  pub padded-put : length ys ≤ length zs → length xs + length zs ≤ n → over (padded n (xs ++ ys) ++ rest) (length xs) zs ≡ padded n (xs ++ zs) ++ rest
+  unfolding padded over
+  padded-put h k =
+      let a : ℕ = n - length (xs ++ ys) in
+      let d : ℕ = length zs - length ys in
+      let A : List ℕ = ys ++ (zeros a ++ rest) in
+      let e : ((xs ++ ys) ++ zeros a) ++ rest ≡ xs ++ A = simp append-assoc in
+      let l = length-append xs ys in
+      let m = length-append xs zs in
+      let w : drop (length zs) A ≡ zeros (n - length (xs ++ zs)) ++ rest =
+      ap (λ (j : ℕ). drop j A) (let z : length zs ≡ length ys + d = omega arith in z)
+      ∙ drop-append-add ys (zeros a ++ rest) d
+      ∙ drop-append-le d (zeros a) rest (rw (length-zeros a) (omega arith))
+      ∙ ap (λ (q : List ℕ). q ++ rest) (drop-zeros d a ∙ ap zeros (let z : a - d ≡ n - length (xs ++ zs) = omega arith in z)) in
+      ap (λ (q : List ℕ). (take (length xs) q ++ zs) ++ drop (length xs + length zs) q) e
+      ∙ ap (λ (q : List ℕ). (q ++ zs) ++ drop (length xs + length zs) (xs ++ A)) (take-append-seam xs A)
+      ∙ ap (λ (q : List ℕ). (xs ++ zs) ++ q) (drop-append-add xs A (length zs) ∙ w)
+      ∙ sym (append-assoc (xs ++ zs) (zeros (n - length (xs ++ zs))) rest)
+
+pub padded-trail : (n m : ℕ) (xs : List ℕ) → length xs + m ≤ n → padded n (xs ++ zeros m) ≡ padded n xs
+unfolding padded
+padded-trail n m xs h =
+    let l = length-append xs (zeros m) in
+    let r = length-zeros m in
+    append-assoc xs (zeros m) (zeros (n - length (xs ++ zeros m)))
+    ∙ ap (λ (q : List ℕ). xs ++ q)
+    (replicate-append-replicate {A = ℕ} m (n - length (xs ++ zeros m)) 0 ∙ ap zeros (let z : m + (n - length (xs ++ zeros m)) ≡ n - length xs = omega arith in z))
+
+-- an append: nothing was there before
+pub padded-add : (n : ℕ) (xs zs rest : List ℕ) (k : ℕ) → k ≡ length xs → length xs + length zs ≤ n → over (padded n xs ++ rest) k zs ≡ padded n (xs ++ zs) ++ rest
+padded-add n xs zs rest k e h =
+    ap (λ (j : ℕ). over (padded n xs ++ rest) j zs) e
+    ∙ ap (λ (q : List ℕ). over (padded n q ++ rest) (length xs) zs) (sym (append-nil xs))
+    ∙ padded-put n xs [] zs rest (omega arith) h
+
+-- a part at the end, itself padded up to p, is cleared
+pub padded-cut : (n p : ℕ) (xs es rest : List ℕ) (at : ℕ) → at ≡ length xs → length es ≤ p → length xs + p ≤ n
+    → over (padded n (xs ++ padded p es) ++ rest) at (zeros (length es)) ≡ padded n xs ++ rest
+unfolding padded
+padded-cut n p xs es rest at e h l =
+    let a = length-append xs es in
+    let z = length-zeros (length es) in
+    ap (λ (q : List ℕ). over (padded n q ++ rest) at (zeros (length es))) (sym (append-assoc xs es (zeros (p - length es))))
+    ∙ ap (λ (q : List ℕ). over (q ++ rest) at (zeros (length es))) (padded-trail n (p - length es) (xs ++ es) (omega arith))
+    ∙ ap (λ (j : ℕ). over (padded n (xs ++ es) ++ rest) j (zeros (length es))) e
+    ∙ padded-put n xs es (zeros (length es)) rest (omega arith) (omega arith)
+    ∙ ap (λ (q : List ℕ). q ++ rest) (padded-trail n (length es) xs (omega arith))
+
+-- the unused entries are zero
+pub padded-free : (n : ℕ) (xs rest : List ℕ) (at k : ℕ) → at ≡ length xs → at + k ≤ n → take k (drop at (padded n xs ++ rest)) ≡ zeros k
+unfolding padded
+padded-free n xs rest at k e h =
+    let d : ℕ = n - length xs in
+    let w : d ≡ k + (d - k) = omega arith in
+    ap (λ (q : List ℕ). take k (drop at q)) (append-assoc xs (zeros d) rest)
+    ∙ ap (λ (q : List ℕ). take k q) (drop-at xs (zeros d ++ rest) at (sym e))
+    ∙ ap (λ (j : ℕ). take k (zeros j ++ rest)) w
+    ∙ ap (λ (q : List ℕ). take k (q ++ rest)) (sym (replicate-append-replicate {A = ℕ} k (d - k) 0))
+    ∙ ap (λ (q : List ℕ). take k q) (append-assoc (zeros k) (zeros (d - k)) rest)
+    ∙ take-at (zeros k) (zeros (d - k) ++ rest) k (length-zeros k)
+
+-- ---- one store
+pub set-over : (l : List ℕ) (i v : ℕ) → i < length l → set l i v ≡ over l i (v ∷ [])
+unfolding over
+set-over l i v h = set-split l i v h ∙ sym (append-snoc (take i l) v (drop (suc i) l)) ∙ ap (λ (k : ℕ). (take i l ++ (v ∷ [])) ++ drop k l) (sym (add-one i))
+
+-- one entry of a padded array stored anew, or the first free one
+pub padded-set : (n : ℕ) (xs ys : List ℕ) (k v : ℕ) → k ≡ length xs → length ys ≤ 1 → length xs + 1 ≤ n → set (padded n (xs ++ ys)) k v ≡ padded n (xs ++ (v ∷ []))
+padded-set n xs ys k v e h l =
+    let p : length (xs ++ ys) ≤ n = let w = length-append xs ys in omega arith in
+    let q = length-padded n (xs ++ ys) p in
+    set-over (padded n (xs ++ ys)) k v (omega arith)
+    ∙ ap (λ (j : ℕ). over (padded n (xs ++ ys)) j (v ∷ [])) e
+    ∙ ap (λ (a : List ℕ). over a (length xs) (v ∷ [])) (sym (append-nil (padded n (xs ++ ys))))
+    ∙ padded-put n xs ys (v ∷ []) [] h l
+    ∙ append-nil (padded n (xs ++ (v ∷ [])))
+
+pub padded-last : (n : ℕ) (xs : List ℕ) (x k : ℕ) → k ≡ length xs → getD (padded n (xs ++ (x ∷ []))) k 0 ≡ x
+unfolding padded
+padded-last n xs x k e = ap (λ (q : List ℕ). getD q k 0) (append-assoc xs (x ∷ []) (zeros (n - length (xs ++ (x ∷ []))))) ∙ getD-at xs x (zeros (n - length (xs ++ (x ∷ [])))) 0 k (sym e)
+
+-- ---- a row stored entry by entry
+over-paste : (l : List ℕ) (at : ℕ) (ys : List ℕ) → paste l at ys (length ys) ≡ over l at ys
+unfolding over
+over-paste l at ys = ap (λ (q : List ℕ). (take at l ++ q) ++ drop (at + length ys) l) (take-length ys)
+
+pub length-over : (l : List ℕ) (at : ℕ) (ys : List ℕ) → at + length ys ≤ length l → length (over l at ys) ≡ length l
+length-over l at ys h = ap length (sym (over-paste l at ys)) ∙ length-paste l at ys (length ys) h (omega arith)
+
+-- what a part that was lent leaves
+pub over-part : (l : List ℕ) (at k : ℕ) (ys : List ℕ) → length ys ≡ k → take at l ++ (ys ++ drop k (drop at l)) ≡ over l at ys
+unfolding over
+over-part l at k ys e =
+    ap (λ (q : List ℕ). take at l ++ (ys ++ q)) (drop-drop k at l ∙ ap (λ (j : ℕ). drop (at + j) l) (sym e))
+    ∙ sym (append-assoc (take at l) ys (drop (at + length ys) l))
+
+-- l has become a: the first i entries of src are stored
+pub record Copied (l : List ℕ) (at : ℕ) (src : List ℕ) (i : ℕ) (a : List ℕ) : Type 0 where
+  pub upto : i ≤ length src
+  pub so : a ≡ paste l at src i
+  pub kept : length a ≡ length l
+
+pub copied-begin : (l : List ℕ) (at : ℕ) (src : List ℕ) → Copied l at src 0 l
+copied-begin l at src = record { upto = omega arith; so = paste-zero l at src; kept = refl }
+
+pub copied-next : (l : List ℕ) (at : ℕ) (src : List ℕ) (i : ℕ) (a : List ℕ) → Copied l at src i a → at + i < length l → i < length src
+    → Copied l at src (i + 1) (set a (at + i) (getD src i 0))
+copied-next l at src i a c h k =
+    record {
+      upto = omega arith;
+      so = ap (λ (q : List ℕ). set q (at + i) (getD src i 0)) (c .so) ∙ paste-suc l at src i 0 h k ∙ ap (λ (j : ℕ). paste l at src j) (sym (add-one i));
+      kept = length-set a (at + i) (getD src i 0) ∙ c .kept;
+    }
+
+pub copied-end : (l : List ℕ) (at : ℕ) (src : List ℕ) (i : ℕ) (a : List ℕ) → Copied l at src i a → length src ≤ i → a ≡ over l at src
+copied-end l at src i a c h =
+    let e : i ≡ length src = omega (arith, c .upto) in
+    c .so ∙ ap (λ (j : ℕ). paste l at src j) e ∙ over-paste l at src
+
+-- n zeros stored one by one
+pub copied-zero : (l : List ℕ) (at n i : ℕ) (a : List ℕ) → Copied l at (zeros n) i a → at + n ≤ length l → i < n → Copied l at (zeros n) (i + 1) (set a (at + i) 0)
+copied-zero l at n i a c h k =
+    subst (λ (x : ℕ). Copied l at (zeros n) (i + 1) (set a (at + i) x)) (getD-replicate {A = ℕ} n i 0 0 k)
+    (copied-next l at (zeros n) i a c (omega arith) (rw (length-zeros n) k))
+
+-- ---- sums
+pub total-more : (l : List ℕ) (i : ℕ) → i < length l → total (take (i + 1) l) ≡ total (take i l) + getD l i 0
+unfolding total
+total-more l i h =
+    rw (add-one i, take-suc l i 0 h)
+    (omega (arith, sum-append (take i l) (getD l i 0 ∷ [])))

@@ -1,0 +1,66 @@
+-- `rows::kept_points` meets its contract: the sum of the routes passed, each below 2^32.
+use mathlib.Core.Path.{_≡_, refl, sym, _∙_, ap}
+use Prim.Native.Nat.{ℕ, _+_, _-_, _*_, _≤_}
+use native.Mathlib.Omega.{arith}
+use lib.ListN.{length, take}
+use Rattle.laws.specs.Lists.{total}
+use Rattle.rows.proofs.Stores.{total-more}
+use Rattle.rows.proofs.kept_points.Statement.{statement}
+use Rattle.rows.proofs.kept_points.Tie as tie
+
+abbrev Inv-loop : tie.InvT-loop
+Inv-loop n routes sum₀ i₀ sum i = (i ≤ n) × (sum ≤ i * 4294967295) × (sum ≡ total (take i routes))
+
+abbrev μ-loop : tie.MeasureT-loop
+μ-loop n routes sum₀ i₀ sum i = n - i
+
+loop-holds : tie.Need-loop-holds Inv-loop μ-loop
+unfolding total
+loop-holds c = (omega arith, omega arith, refl)
+
+mul-index : tie.Need-mul-index Inv-loop μ-loop
+mul-index c = omega arith
+
+array-read-index : tie.Need-array-read-index Inv-loop μ-loop
+array-read-index c = omega arith
+
+index-requires : tie.Need-index-requires Inv-loop μ-loop
+index-requires c κs = tt
+
+add-sum : tie.Need-add-sum Inv-loop μ-loop
+add-sum c = omega (arith, c .index .ensures .1)
+
+add-i : tie.Need-add-i Inv-loop μ-loop
+add-i c = omega arith
+
+loop-less : tie.Need-loop-less Inv-loop μ-loop
+loop-less c = omega arith
+
+loop-again : tie.Need-loop-again Inv-loop μ-loop
+loop-again c = (
+  omega arith,
+  omega (arith, c .index .ensures .1),
+  (let e = total-more (c .before .before .before .args .t1) (c .before .before .loop .i) (omega (arith, c .before .before .before .good .0 .1 .0 .1)) in
+      let f = c .index .ensures .0 in omega arith),
+)
+
+returns : tie.Need-returns Inv-loop μ-loop
+returns c =
+    let e : c .before .loop .i ≡ c .before .before .args .n = omega arith in
+    c .before .loop .inv .2 ∙ ap (λ (k : ℕ). total (take k (c .before .before .args .t1))) e
+
+pub kept-points-spec : {M : Type 1} → statement M
+kept-points-spec =
+    tie.close
+    (tie.spec
+    Inv-loop
+    μ-loop
+    loop-holds
+    mul-index
+    array-read-index
+    index-requires
+    add-sum
+    add-i
+    loop-less
+    loop-again
+    returns)

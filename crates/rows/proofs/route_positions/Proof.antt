@@ -1,0 +1,104 @@
+-- `rows::route_positions` meets its contract: the points of the centres passed are stored.
+use mathlib.Core.Path.{_≡_, refl, sym, _∙_, ap}
+use Prim.Native.Nat.{ℕ, _+_, _-_, _*_, _≤_}
+use native.Mathlib.Omega.{arith}
+use mathlib.Core.List.{map}
+use lib.ListN.{length, take, length-set}
+use Rattle.rects.specs.Windows.{positionOf}
+use Rattle.calls.specs.Areas.{numbers}
+use Rattle.rows.proofs.Stores.{Copied, copied-begin, copied-end}
+use Rattle.rows.proofs.Points.{length-points, points-next}
+use Rattle.rows.proofs.route_positions.Statement.{statement}
+use Rattle.rows.proofs.route_positions.Tie as tie
+
+abbrev Inv-loop : tie.InvT-loop
+Inv-loop points₀ at path n window i₀ points i = (i ≤ n) × Copied points₀ at (numbers (map (positionOf window) (take n path))) (2 * i) points
+
+abbrev μ-loop : tie.MeasureT-loop
+μ-loop points₀ at path n window i₀ points i = n - i
+
+loop-holds : tie.Need-loop-holds Inv-loop μ-loop
+loop-holds c = (omega arith, copied-begin _ _ _)
+
+mul-position-of : tie.Need-mul-position-of Inv-loop μ-loop
+mul-position-of c = omega arith
+
+shared-slice-read-position-of : tie.Need-shared-slice-read-position-of Inv-loop μ-loop
+shared-slice-read-position-of c = omega arith
+
+position-of-requires : tie.Need-position-of-requires Inv-loop μ-loop
+position-of-requires c κs =
+    (c .before .before .before .before .before .pre .0, c .before .before .before .before .before .pre .1 .1 (c .before .before .loop .i) (c .before .loop-test .taken))
+
+mul-points : tie.Need-mul-points Inv-loop μ-loop
+mul-points c = omega arith
+
+add-points : tie.Need-add-points Inv-loop μ-loop
+add-points c = omega arith
+
+mul-points-2 : tie.Need-mul-points-2 Inv-loop μ-loop
+mul-points-2 c = omega arith
+
+slice-write-points : tie.Need-slice-write-points Inv-loop μ-loop
+slice-write-points c = let k = c .before .before .before .loop .inv .1 .kept in omega (arith, c .before .before .before .before .before .before .pre .1 .0 .0)
+
+mul-points-3 : tie.Need-mul-points-3 Inv-loop μ-loop
+mul-points-3 c = omega arith
+
+add-points-2 : tie.Need-add-points-2 Inv-loop μ-loop
+add-points-2 c = omega arith
+
+add-points-3 : tie.Need-add-points-3 Inv-loop μ-loop
+add-points-3 c = omega arith
+
+mul-points-4 : tie.Need-mul-points-4 Inv-loop μ-loop
+mul-points-4 c = omega arith
+
+slice-write-points-2 : tie.Need-slice-write-points-2 Inv-loop μ-loop
+slice-write-points-2 c = let k = c .before .before .before .loop .inv .1 .kept in simp length-set (omega (arith, c .before .before .before .before .before .before .pre .1 .0 .0))
+
+add-i : tie.Need-add-i Inv-loop μ-loop
+add-i c = omega arith
+
+loop-less : tie.Need-loop-less Inv-loop μ-loop
+loop-less c = omega arith
+
+loop-again : tie.Need-loop-again Inv-loop μ-loop
+loop-again c = (
+  omega arith,
+  points-next _ _ _ (c .before .before .before .before .before .before .pre .1 .0 .1) _ _ (c .before .before .before .loop .i) _ (c .position-of .result) (c .position-of .ensures)
+      (c .before .before .before .before .before .before .pre .1 .0 .0) (c .before .before .loop-test .taken) (c .before .before .before .loop .inv .1),
+)
+
+same-length : tie.Need-same-length Inv-loop μ-loop
+same-length c = c .before .loop .inv .1 .kept
+
+returns : tie.Need-returns Inv-loop μ-loop
+returns c =
+    copied-end _ _ _ _ _ (c .before .loop .inv .1)
+    (omega (arith, length-points (c .before .before .before .before .args .window) (c .before .before .before .before .args .path .now) (c .before .before .before .before .args .n) (c .before .before .before .before .pre .1 .0 .1)))
+
+pub route-positions-spec : {M : Type 1} → statement M
+route-positions-spec =
+    tie.close
+    (tie.spec
+    Inv-loop
+    μ-loop
+    loop-holds
+    mul-position-of
+    shared-slice-read-position-of
+    position-of-requires
+    mul-points
+    add-points
+    mul-points-2
+    slice-write-points
+    mul-points-3
+    add-points-2
+    add-points-3
+    mul-points-4
+    slice-write-points-2
+    add-i
+    loop-less
+    loop-again
+    same-length
+    returns)

@@ -1,0 +1,1 @@
+// The drive sheet's answer: definitions alone.

@@ -1,0 +1,78 @@
+-- `rect_in`: four words, four edges.
+use borrow.Author.Needs.{needs}
+use Rattle.sheets.proofs.Edges.{rect-made}
+use Rattle.sheets.proofs.rect_in.Statement.{statement}
+use Rattle.sheets.proofs.rect_in.Tie as tie
+
+mul-edge : tie.Need-mul-edge
+mul-edge c = search needs
+
+shared-slice-read-edge : tie.Need-shared-slice-read-edge
+shared-slice-read-edge c = search needs
+
+edge-requires : tie.Need-edge-requires
+edge-requires c κs = search needs
+
+add-edge : tie.Need-add-edge
+add-edge c = search needs
+
+mul-edge-2 : tie.Need-mul-edge-2
+mul-edge-2 c = search needs
+
+shared-slice-read-edge-2 : tie.Need-shared-slice-read-edge-2
+shared-slice-read-edge-2 c = search needs
+
+edge-requires-2 : tie.Need-edge-requires-2
+edge-requires-2 c κs = search needs
+
+add-edge-2 : tie.Need-add-edge-2
+add-edge-2 c = search needs
+
+mul-edge-3 : tie.Need-mul-edge-3
+mul-edge-3 c = search needs
+
+shared-slice-read-edge-3 : tie.Need-shared-slice-read-edge-3
+shared-slice-read-edge-3 c = search needs
+
+edge-requires-3 : tie.Need-edge-requires-3
+edge-requires-3 c κs = search needs
+
+add-edge-3 : tie.Need-add-edge-3
+add-edge-3 c = search needs
+
+mul-edge-4 : tie.Need-mul-edge-4
+mul-edge-4 c = search needs
+
+shared-slice-read-edge-4 : tie.Need-shared-slice-read-edge-4
+shared-slice-read-edge-4 c = search needs
+
+edge-requires-4 : tie.Need-edge-requires-4
+edge-requires-4 c κs = search needs
+
+returns : tie.Need-returns
+returns c =
+    rect-made (c .before .before .before .before .before .before .before .before .before .args .words .now)
+    (c .before .before .before .before .before .before .before .before .before .args .at) _ _ _ _
+    (c .before .before .before .before .before .before .edge .ensures) (c .before .before .before .before .edge2 .ensures)
+    (c .before .before .edge3 .ensures) (c .edge4 .ensures)
+
+pub rect-in-spec : {M : Type 1} → statement M
+rect-in-spec =
+    tie.close
+    (tie.spec
+    mul-edge
+    shared-slice-read-edge
+    edge-requires
+    add-edge
+    mul-edge-2
+    shared-slice-read-edge-2
+    edge-requires-2
+    add-edge-2
+    mul-edge-3
+    shared-slice-read-edge-3
+    edge-requires-3
+    add-edge-3
+    mul-edge-4
+    shared-slice-read-edge-4
+    edge-requires-4
+    returns)

@@ -1,0 +1,4 @@
+pub mod Parts
+pub mod Found
+pub mod Stepped
+pub mod Answered

@@ -1,0 +1,62 @@
+-- From the parts of a step to the whole: cleared working areas, and the call that is left.
+use Prim.Native.Nat.{ℕ, _-_}
+use mathlib.Core.Path.{_≡_, sym, _∙_, ap}
+use mathlib.Core.Option.{none}
+use mathlib.Core.List.{List, []}
+use native.Mathlib.Omega.{arith}
+use lib.IntN.{ℤ}
+use lib.ListN.{length, take, drop, replicate}
+use lib.Seq.{take-at}
+use Rattle.laws.specs.Lists.{padded}
+use Rattle.model.specs.Answers.{first}
+use Rattle.model.specs.declared.Limits.{Limits}
+use Rattle.model.specs.declared.Query.{Query}
+use Rattle.model.specs.declared.Record.{Record}
+use Rattle.model.specs.declared.Rect.{Rect}
+use Rattle.rects.specs.Windows.{centres}
+use Rattle.routes.specs.Edges.{Step, stepsOf, eightSteps}
+use Rattle.route.proofs.Order.{eight-once}
+use Rattle.layouts.specs.Inputs.{Inputs}
+use Rattle.layouts.specs.Flat.{inputsOf}
+use Rattle.search.specs.Frames.{step}
+use Rattle.calls.specs.Areas.{Work, Store, workIn, laid, cleared, stateOf, recordOf, storeOf}
+use Rattle.calls.specs.Calls.{planOf, stepChecks, stepCall}
+use Rattle.calls.proofs.StepLaws.{left, step-is}
+use Rattle.rows.proofs.Stores.{length-zeros}
+use Rattle.frames.specs.Kept.{terms, planIn, Holds}
+use Rattle.step.specs.Ground.{Clear, Kept}
+
+laid-front : (c : ℕ) (area : List ℕ) → take c (laid c [] area) ≡ replicate c 0
+unfolding laid padded
+laid-front c area =
+    let z : c - 0 ≡ c = omega arith in
+    rw z (take-at (replicate c 0) (drop c area) c (length-zeros c))
+
+module _ (w : Rect) (work : Work) (counts : List ℤ) (map queue predecessors route : List ℕ) (e : workIn counts map queue predecessors route ≡ cleared w work) where
+  pub clear-after : Clear (centres w) map queue predecessors route
+  unfolding cleared
+  clear-after = record {
+    mapClear = ap (λ (x : Work). take (centres w) (x .map)) e ∙ laid-front (centres w) (work .map);
+    queueClear = ap (λ (x : Work). take (centres w) (x .queue)) e ∙ laid-front (centres w) (work .queue);
+    predecessorsClear = ap (λ (x : Work). take (centres w) (x .predecessors)) e ∙ laid-front (centres w) (work .predecessors);
+    routeClear = ap (λ (x : Work). take (centres w) (x .route)) e ∙ laid-front (centres w) (work .route);
+  }
+
+  pub work-after : (map′ queue′ predecessors′ route′ : List ℕ) → Kept map queue predecessors route map′ queue′ predecessors′ route′
+      → workIn counts map′ queue′ predecessors′ route′ ≡ cleared w work
+  work-after map′ queue′ predecessors′ route′ k =
+      (λ j. workIn counts (k .mapKept j) (k .queueKept j) (k .predecessorsKept j) (k .routeKept j)) ∙ e
+
+pub stepped : (q : Query) (l : Limits) (groups numbers : List ℕ) (edges : List ℤ) (blockBase allowBase : List ℕ) (r : Record) (n : ℕ) (work : Work) (a : Store)
+    → first (stepChecks (inputsOf q groups numbers edges blockBase allowBase) l r work a) ≡ none → (table : List ℤ) → stepsOf table ≡ eightSteps
+    → (r′ : Record) (work′ : Work) (a′ : Store) → work′ ≡ cleared (q .window) work
+    → Holds (terms q groups numbers edges blockBase allowBase table l) a (step (planIn (terms q groups numbers edges blockBase allowBase table l)) n (stateOf r a)) r′ a′
+    → stepCall eightSteps (inputsOf q groups numbers edges blockBase allowBase) l r n work a ≡ record { answer = none; rec = r′; work = work′; store = a′ }
+unfolding left inputsOf
+stepped q l groups numbers edges blockBase allowBase r n work a passed table eight r′ work′ a′ w h =
+    let i : Inputs = inputsOf q groups numbers edges blockBase allowBase in
+    let er : r′ ≡ recordOf (length (i .places)) (step (planOf eightSteps i l) n (stateOf r a)) =
+    h .rec ∙ ap (λ (s : List Step). recordOf (length (i .places)) (step (planOf s i l) n (stateOf r a))) eight in
+    let ea : a′ ≡ storeOf i l (step (planOf eightSteps i l) n (stateOf r a)) a =
+    h .areas ∙ ap (λ (s : List Step). storeOf i l (step (planOf s i l) n (stateOf r a)) a) eight in
+    step-is eightSteps eight-once i l r work a passed n ∙ (λ j. record { answer = none; rec = sym er j; work = sym w j; store = sym ea j })

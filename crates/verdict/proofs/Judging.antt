@@ -1,0 +1,159 @@
+-- The verdict, test by test, and the areas that are lent for it.
+use Prim.Native.Nat.{ℕ, _*_, _<_}
+use mathlib.Core.Path.{_≡_, refl, sym, ap, ap₂, _∙_}
+use mathlib.Core.Bool.{Bool, true, false, not, _&&_, true≢false, false≢true}
+use mathlib.Core.Option.{Option}
+use mathlib.Core.List.{List, [], _∷_, _++_, append-nil}
+use lib.IntN.{ℤ}
+use lib.ListN.{length, drop, replicate, length-replicate}
+use lib.Seq.{drop-length}
+use Rattle.laws.specs.Lists.{anyOf, firstOf, isSome}
+use Rattle.model.specs.declared.Rect.{Rect}
+use Rattle.model.specs.declared.Query.{Query}
+use Rattle.model.specs.declared.Verdict.{Verdict}
+use Rattle.model.specs.declared.Verdict.the-variants.{Slots, Overlap, EndCovered, Open, Spare, Shut, Wall}
+use Rattle.rects.specs.Windows.{centres, centreAt, windowFits}
+use Rattle.rects.proofs.Windows.{framed}
+use Rattle.routes.specs.Edges.{Step}
+use Rattle.route.specs.Ground.{openIn}
+use Rattle.layouts.specs.Boards.{Mover, Board, leavesOpen, openEnds, routePast}
+use Rattle.layouts.specs.Explore.{isMinimalBlock}
+use Rattle.layouts.specs.Inputs.{boardOf}
+use Rattle.layouts.specs.Flat.{placesIn, inputsOf}
+use Rattle.layouts.specs.Judge.{overSlots, overlaps, verdict}
+use Rattle.cover.specs.Cover.{coverOf, moverIn}
+use Rattle.explore.specs.Ready.{Blank, Lent, Kept, passed, minimal, allowedPast, allowIn, flatBoard}
+use Rattle.explore.proofs.FlatBoard.{flat-board}
+use Rattle.explore.proofs.Passing.{open-is}
+use Rattle.explore.proofs.Evaluating.{flat-allowed}
+use Rattle.verdict.specs.Flags.{crowded, clashing, pastShut, pastFit}
+
+-- ---- the first that holds
+module _ {A : Type 0} where
+  pub picked : (b : Bool) (a : A) (cs : List (Bool × A)) (o : A) → b ≡ true → firstOf ((b, a) ∷ cs) o ≡ a
+  unfolding firstOf
+  picked true a cs o e = refl
+  picked false a cs o e = absurd (false≢true e)
+
+  pub passed-by : (b : Bool) (a : A) (cs : List (Bool × A)) (o : A) → b ≡ false → firstOf ((b, a) ∷ cs) o ≡ firstOf cs o
+  unfolding firstOf
+  passed-by true a cs o e = absurd (true≢false e)
+  passed-by false a cs o e = refl
+
+  pub none-holds : (o : A) → firstOf [] o ≡ o
+  unfolding firstOf
+  none-holds o = refl
+
+-- ---- the verdict over placements lent flat
+module _ (q : Query) (start end n : ℕ) (groups numbers : List ℕ) (edges : List ℤ) (blockBase allowBase : List ℕ) (steps : List Step) (s : List ℕ) where
+  abbrev board : Board
+  board = flatBoard q start end n groups numbers edges blockBase allowBase steps
+
+  abbrev fit : Verdict
+  fit = pastFit (q .window) steps start end (moverIn (q .window) edges (q .block) blockBase) (allowIn (q .window) edges (q .allow) allowBase) s
+
+  pub verdict-flat : verdict board s ≡ firstOf ((anyOf (crowded (placesIn n groups numbers edges) s) s, Slots) ∷ (anyOf (clashing edges s) s, Overlap) ∷ []) fit
+  unfolding verdict overSlots overlaps openEnds crowded clashing pastFit pastShut firstOf flatBoard placesIn passed minimal isMinimalBlock routePast
+  verdict-flat =
+      ap
+      (λ (o : Option (List ℕ)).
+      firstOf
+      ((overSlots board s, Slots)
+      ∷ (overlaps board s, Overlap)
+      ∷ (not (openEnds board (board .block) s), EndCovered)
+      ∷ (isSome (passed (q .window) steps start end (board .block) s), Open)
+      ∷ (not (isMinimalBlock board s), Spare)
+      ∷ (not (isSome o), Shut)
+      ∷ []) Wall)
+      (flat-allowed q start end n groups numbers edges blockBase allowBase steps s)
+
+  pub verdict-slots : (b : Bool) → b ≡ anyOf (crowded (placesIn n groups numbers edges) s) s → b ≡ true → Slots ≡ verdict board s
+  verdict-slots b e t = sym (verdict-flat ∙ picked _ Slots _ fit (sym e ∙ t))
+
+  module _ (b : Bool) (e : b ≡ anyOf (crowded (placesIn n groups numbers edges) s) s) (f : b ≡ false) where
+    pub verdict-overlap : (c : Bool) → c ≡ anyOf (clashing edges s) s → c ≡ true → Overlap ≡ verdict board s
+    verdict-overlap c p t = sym (verdict-flat ∙ passed-by _ Slots _ fit (sym e ∙ f) ∙ picked _ Overlap _ fit (sym p ∙ t))
+
+    pub verdict-fit : (c : Bool) → c ≡ anyOf (clashing edges s) s → c ≡ false → fit ≡ verdict board s
+    verdict-fit c p t = sym (verdict-flat ∙ passed-by _ Slots _ fit (sym e ∙ f) ∙ passed-by _ Overlap _ fit (sym p ∙ t) ∙ none-holds fit)
+
+  -- the board of the paper has the same verdict
+  pub verdict-paper : length numbers ≡ 4 * n → length edges ≡ 8 * n → start ≡ centreAt (q .window) (q .start) → end ≡ centreAt (q .window) (q .end)
+      → verdict board s ≡ verdict (boardOf steps (inputsOf q groups numbers edges blockBase allowBase)) s
+  verdict-paper fours eights a b =
+      ap (λ (g : Board). verdict g s) (sym (flat-board n numbers edges fours eights q start end groups blockBase allowBase steps a b))
+
+-- ---- the verdict by routes
+module _ (w : Rect) (steps : List Step) (start end : ℕ) (block : Mover) (allow : Option Mover) (s : List ℕ) where
+  abbrev byShut : Verdict
+  byShut = pastShut w steps start end block allow s
+
+  abbrev byFit : Verdict
+  byFit = pastFit w steps start end block allow s
+
+  module _ (m : Bool) (e : m ≡ minimal w steps start end block s) where
+    pub shut-spare : not m ≡ true → Spare ≡ byShut
+    unfolding pastShut
+    shut-spare t = sym (picked _ Spare _ Wall (ap not (sym e) ∙ t))
+
+    module _ (f : not m ≡ false) (a : Bool) (p : a ≡ isSome (allowedPast w steps start end allow s)) where
+      pub shut-shut : not a ≡ true → Shut ≡ byShut
+      unfolding pastShut
+      shut-shut t = sym (passed-by _ Spare _ Wall (ap not (sym e) ∙ f) ∙ picked _ Shut _ Wall (ap not (sym p) ∙ t))
+
+      pub shut-wall : not a ≡ false → Wall ≡ byShut
+      unfolding pastShut
+      shut-wall t = sym (passed-by _ Spare _ Wall (ap not (sym e) ∙ f) ∙ passed-by _ Shut _ Wall (ap not (sym p) ∙ t) ∙ none-holds Wall)
+
+  -- the ends are looked at on the map that the set lays
+  module _ (cells : List ℕ) (laid : cells ≡ coverOf block (centres w) s) (startBelow : start < centres w) (endBelow : end < centres w)
+      (b : Bool) (e : b ≡ not (openIn cells start && openIn cells end)) where
+    ends : b ≡ not (leavesOpen block s start && leavesOpen block s end)
+    ends =
+        e ∙ ap not (ap₂ _&&_ (open-is block (centres w) s cells laid start startBelow) (open-is block (centres w) s cells laid end endBelow))
+
+    pub fit-covered : b ≡ true → EndCovered ≡ byFit
+    unfolding pastFit
+    fit-covered t = sym (picked _ EndCovered _ byShut (sym ends ∙ t))
+
+    module _ (f : b ≡ false) (o : Bool) (p : o ≡ isSome (passed w steps start end block s)) where
+      pub fit-open : o ≡ true → Open ≡ byFit
+      unfolding pastFit
+      fit-open t = sym (passed-by _ EndCovered _ byShut (sym ends ∙ f) ∙ picked _ Open _ byShut (sym p ∙ t))
+
+      pub fit-shut : o ≡ false → byShut ≡ byFit
+      unfolding pastFit
+      fit-shut t = sym (passed-by _ EndCovered _ byShut (sym ends ∙ f) ∙ passed-by _ Open _ byShut (sym p ∙ t) ∙ none-holds byShut)
+
+-- ---- the areas
+pub lent-blank : (q : Query) (start end : ℕ) {map queue previous path : List ℕ} → windowFits 8192 8192 (q .window) ≡ true
+    → start < centres (q .window) → end < centres (q .window) → Blank (centres (q .window)) map queue previous path → Lent (q .window) start end map queue previous path
+lent-blank q start end w s e b =
+    let f = framed 8192 8192 (q .window) w in
+    record {
+      some = f .filled;
+      few = f .few;
+      startBelow = s;
+      endBelow = e;
+      bytes = ap (λ (x : List ℕ). length x) (b .mapClear) ∙ length-replicate {A = ℕ} (centres (q .window)) 0;
+      queueClear = b .queueClear;
+      previousClear = b .previousClear;
+      pathClear = b .pathClear;
+    }
+
+-- an area of c entries is zero once it is wiped to its end
+pub wiped-whole : (c : ℕ) (area : List ℕ) → length area ≡ c → replicate (length area) 0 ++ drop (length area) area ≡ replicate c 0
+wiped-whole c area e =
+    ap (λ (x : List ℕ). replicate (length area) 0 ++ x) (drop-length area) ∙ append-nil (replicate (length area) 0) ∙ ap (λ (n : ℕ). replicate n 0) e
+
+pub blank-again : {c : ℕ} {map queue previous path map′ queue′ previous′ path′ : List ℕ} → Blank c map queue previous path → map′ ≡ replicate c 0
+    → Kept queue previous path queue′ previous′ path′ → Blank c map′ queue′ previous′ path′
+blank-again b e k = record {
+  mapClear = e;
+  queueClear = k .queueKept ∙ b .queueClear;
+  previousClear = k .previousKept ∙ b .previousClear;
+  pathClear = k .pathKept ∙ b .pathClear;
+}
+
+pub kept-on : {q p r q′ p′ r′ q″ p″ r″ : List ℕ} → Kept q p r q′ p′ r′ → Kept q′ p′ r′ q″ p″ r″ → Kept q p r q″ p″ r″
+kept-on a b = record { queueKept = b .queueKept ∙ a .queueKept; previousKept = b .previousKept ∙ a .previousKept; pathKept = b .pathKept ∙ a .pathKept }

@@ -1,0 +1,4 @@
+pub mod Looking
+pub mod Judging
+pub mod Allowing
+pub mod Counting
