@@ -18,8 +18,8 @@ run:
 
 routes:
 	@command -v cargo >/dev/null || { echo "make routes: cargo is not at hand"; exit 1; }
-	@rt staticlib route_c > /dev/null
-	@cd compare/routes && cargo run --quiet --release > target/stdout && cmp target/stdout stdout && cat stdout
+	@rt staticlib route_c > /dev/null 2>&1
+	@cd compare/routes && mkdir -p target && cargo run --quiet --release > target/stdout && cmp target/stdout stdout && cat stdout
 
 answers:
 	@command -v cargo >/dev/null || { echo "make answers: cargo is not at hand, so the original Rust cannot be run"; exit 1; }

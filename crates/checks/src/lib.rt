@@ -3,8 +3,11 @@ use lengths::StoreLengths;
 use lengths::WorkLengths;
 use model::Allow;
 use model::Answer;
+use model::EDGES;
 use model::Limits;
+use model::NUMBERS;
 use model::Query;
+use model::RECTS;
 use model::Rect;
 use model::Refusal;
 ghost use mathlib.Core.Path.{_≡_};
@@ -193,8 +196,8 @@ pub fn check_areas(query: Query, block_base: &[u8], allow_base: &[u8], long: boo
 fn whole_places(numbers: usize, edges: usize) -> usize
     ensures { λ r. ⌜ r ≡ min (numbers / 4) (edges / 8) ⌝ }
 {
-    let fours = numbers / 4;
-    let eights = edges / 8;
+    let fours = numbers / NUMBERS;
+    let eights = edges / EDGES;
     if fours < eights {
         return fours;
     }
@@ -206,10 +209,10 @@ pub fn place_count(numbers: usize, edges: usize) -> usize
     ensures { λ r. ⌜ ((ns : List ℕ) (es : List ℤ) → length ns ≡ numbers → length es ≡ edges → r ≡ length (placementsOf ns es)) ⌝ }
 {
     let whole = whole_places(numbers, edges);
-    if numbers != 4 * whole {
+    if numbers != NUMBERS * whole {
         return whole + 1;
     }
-    if edges != 8 * whole {
+    if edges != EDGES * whole {
         return whole + 1;
     }
     whole
@@ -226,17 +229,17 @@ fn placement_fits(window: Rect, groups: &[u32], numbers: &[u32], edges: &[i32], 
     requires { ⌜ (4 * i + 4 ≤ length (now numbers)) × (8 * i + 8 ≤ length (now edges)) ⌝ }
     ensures { λ r. ⌜ r ≡ placementFits window (now (groups .entry)) (placementAt (now (numbers .entry)) (now (edges .entry)) i) ⌝ }
 {
-    if numbers[4 * i] > 5 {
+    if numbers[NUMBERS * i] > 5 {
         return false;
     }
-    if groups.len() <= index(numbers[4 * i + 1]) {
+    if groups.len() <= index(numbers[NUMBERS * i + 1]) {
         return false;
     }
-    let footprint = rects::rect_at(edges, i * 2);
+    let footprint = rects::rect_at(edges, i * RECTS);
     if !rects::nonempty(footprint) {
         return false;
     }
-    if !rects::nonempty(rects::rect_at(edges, i * 2 + 1)) {
+    if !rects::nonempty(rects::rect_at(edges, i * RECTS + 1)) {
         return false;
     }
     rects::holds(window, footprint)

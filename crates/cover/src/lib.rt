@@ -1,5 +1,6 @@
 // What a set of placements covers: a mover's baseline with the members' collision rectangles laid over it.
 use model::Bounds;
+use model::RECTS;
 use model::Rect;
 use rects::Span;
 ghost use mathlib.Core.Path.{_≡_};
@@ -72,7 +73,7 @@ pub fn collision_at(edges: &[i32], i: usize) -> Rect
     requires { ⌜ 8 * i + 8 ≤ length (now edges) ⌝ }
     ensures { λ r. ⌜ r ≡ rectAt (now (edges .entry)) (8 * i + 4) ⌝ }
 {
-    rects::rect_at(edges, i * 2 + 1)
+    rects::rect_at(edges, i * RECTS + 1)
 }
 
 fn index(n: u16) -> usize

@@ -1,5 +1,7 @@
 // Which placements extend a set: those that may join it and touch the route that it leaves.
 use model::Bounds;
+use model::NUMBERS;
+use model::RECTS;
 use model::Rect;
 use rects::Span;
 ghost use mathlib.Core.Path.{_≡_};
@@ -99,7 +101,7 @@ pub fn group_at(numbers: &[u32], i: usize) -> usize
     requires { ⌜ 4 * i + 4 ≤ length (now numbers) ⌝ }
     ensures { λ r. ⌜ r ≡ getD (now (numbers .entry)) (4 * i + 1) 0 ⌝ }
 {
-    index(numbers[i * 4 + 1])
+    index(numbers[i * NUMBERS + 1])
 }
 
 // The footprint of placement i: the first of its two rectangles.
@@ -107,7 +109,7 @@ pub fn footprint_at(edges: &[i32], i: usize) -> Rect
     requires { ⌜ 8 * i + 8 ≤ length (now edges) ⌝ }
     ensures { λ r. ⌜ r ≡ rectAt (now (edges .entry)) (8 * i) ⌝ }
 {
-    rects::rect_at(edges, i * 2)
+    rects::rect_at(edges, i * RECTS)
 }
 
 // How many members are of the group.

@@ -1,4 +1,6 @@
 // A lent row of placements as flat rows of numbers and edges.
+use model::EDGES;
+use model::NUMBERS;
 use model::Placement;
 use model::Rect;
 ghost use mathlib.Core.Path.{_≡_};
@@ -11,10 +13,6 @@ ghost use Rattle.flat.specs.Rows.{numbersOf, edgesOf, bothOf, put, rowsO
 
 // How many placements are laid at most: one more than a call takes, so that a call sees where there are too many.
 pub const MOST: usize = 6145;
-// How many numbers a placement has (spec index, group, tile x, tile y), and how many edges (footprint, collision).
-pub const NUMBERS: usize = 4;
-
-pub const EDGES: usize = 8;
 
 pub struct Rows {
     pub numbers: [u32; NUMBERS * MOST],

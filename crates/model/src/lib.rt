@@ -1,4 +1,4 @@
-// The values that the calls take and give. No code.
+// The values that the calls take and give.
 
 // Half open: right and bottom are exclusive.
 pub struct Rect {
@@ -36,6 +36,13 @@ pub struct Placement {
     pub footprint: Rect,
     pub collision: Rect,
 }
+
+// Placements lent flat: how many numbers each has (spec index, group, tile x, tile y), how many rectangles (footprint, collision), and how many edges those have.
+pub const NUMBERS: usize = 4;
+
+pub const RECTS: usize = 2;
+
+pub const EDGES: usize = 4 * RECTS;
 
 // The mover that a wall must let pass, if there is one.
 pub enum Allow {

@@ -1,7 +1,9 @@
 // Check 16, and the clearing of unused entries.
 use model::Allow;
 use model::Limits;
+use model::NUMBERS;
 use model::Query;
+use model::RECTS;
 use model::Record;
 use model::Rect;
 ghost use mathlib.Core.Path.{_≡_};
@@ -132,7 +134,7 @@ fn group_at(numbers: &[u32], i: usize) -> usize
     requires { ⌜ 4 * i + 4 ≤ length (now numbers) ⌝ }
     ensures { λ r. ⌜ r ≡ getD (now (numbers .entry)) (4 * i + 1) 0 ⌝ }
 {
-    index(numbers[4 * i + 1])
+    index(numbers[NUMBERS * i + 1])
 }
 
 // The footprint of placement i: the first of its two rectangles.
@@ -140,7 +142,7 @@ fn footprint_at(edges: &[i32], i: usize) -> Rect
     requires { ⌜ 8 * i + 8 ≤ length (now edges) ⌝ }
     ensures { λ r. ⌜ r ≡ rectAt (now (edges .entry)) (8 * i) ⌝ }
 {
-    rects::rect_at(edges, i * 2)
+    rects::rect_at(edges, i * RECTS)
 }
 
 // How many of the first k members are of the group.
@@ -309,7 +311,7 @@ pub fn record_fits(
     requires { ⌜ Found query limits (length (now numbers) / 4) (now groups) (now numbers) (now edges) (now lists) (now visited) (now layouts) ⌝ }
     ensures { λ r. ⌜ ((blockBase allowBase points : List ℕ) → r ≡ recordFits (inputsOf query (now (groups .entry)) (now (numbers .entry)) (now (edges .entry)) blockBase allowBase) rec (storeIn (now (lists .entry)) (now (visited .entry)) (now (layouts .entry)) points) limits) ⌝ }
 {
-    let n = numbers.len() / 4;
+    let n = numbers.len() / NUMBERS;
     if !numbers_fit(limits, n, rec) {
         return false;
     }

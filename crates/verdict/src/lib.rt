@@ -2,6 +2,7 @@
 use explore::Passage;
 use model::Allow;
 use model::Bounds;
+use model::NUMBERS;
 use model::Query;
 use model::Rect;
 use model::Verdict;
@@ -331,7 +332,7 @@ pub fn verdict(
     ensures { λ r. ⌜ r ≡ layouts.verdict (boardOf (stepsOf (now (steps .entry))) (inputsOf query (now (groups .entry)) (now (numbers .entry)) (now (edges .entry)) (now («block_base» .entry)) (now («allow_base» .entry)))) (now (set .entry)) ⌝ }
     ensures { λ r. ⌜ Blank (centres (query .window)) (now (map .exit)) (now (queue .exit)) (now (previous .exit)) (now (path .exit)) ⌝ }
 {
-    let n = numbers.len() / 4;
+    let n = numbers.len() / NUMBERS;
     if over_slots(groups, numbers, edges, set, n) {
         return Verdict::Slots;
     }

@@ -1,13 +1,13 @@
 // The calls of document 01: the search record lent, the placements lent as a row of records.
-use flat::EDGES;
 use flat::MOST;
-use flat::NUMBERS;
 use flat::Rows;
 use flat::rows_of;
 use model::Answer;
 use model::Bounds;
+use model::EDGES;
 use model::Judged;
 use model::Limits;
+use model::NUMBERS;
 use model::Placement;
 use model::Position;
 use model::Query;
