@@ -13,9 +13,12 @@ pub mod directed;
 pub mod domain;
 pub mod generate;
 pub mod list;
+pub mod maps;
 pub mod run;
+pub mod sheet;
 pub mod sha256;
 mod stand_ins;
+pub mod stored;
 pub mod text;
 
 pub use case::{Bounds, Case, Layout, List, Mover, Placement, Reason, Rect, Snapshot};

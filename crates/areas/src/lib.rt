@@ -1,9 +1,10 @@
 // Clearing, filling and copying lent areas.
 ghost use mathlib.Core.Path.{_≡_};
 ghost use mathlib.Core.List.{_++_};
-ghost use Prim.Native.Nat.{_≤_};
+ghost use Prim.Native.Nat.{_+_, _≤_};
 ghost use lib.IntN.{pos};
 ghost use lib.ListN.{length, take, drop, replicate};
+ghost use Rattle.laws.specs.Fill.{zeros, over};
 
 // The first n entries become 0.
 pub fn clear_bytes(s: &mut [u8], n: usize)
@@ -29,6 +30,14 @@ pub fn clear_u16(s: &mut [u16], n: usize)
     }
 }
 
+// The n entries from `at` on become 0.
+pub fn clear_u16_from(s: &mut [u16], at: usize, n: usize)
+    requires { ⌜ at + n ≤ length (now s) ⌝ }
+    ensures { λ r. ⌜ now (s .exit) ≡ over (now (s .entry)) at (zeros n) ⌝ }
+{
+    clear_u16(&mut s[at..], n);
+}
+
 // The first n entries become 0.
 pub fn clear_u32(s: &mut [u32], n: usize)
     requires { ⌜ n ≤ length (now s) ⌝ }
@@ -39,6 +48,14 @@ pub fn clear_u32(s: &mut [u32], n: usize)
         s[i] = 0;
         i += 1;
     }
+}
+
+// The n entries from `at` on become 0.
+pub fn clear_u32_from(s: &mut [u32], at: usize, n: usize)
+    requires { ⌜ at + n ≤ length (now s) ⌝ }
+    ensures { λ r. ⌜ now (s .exit) ≡ over (now (s .entry)) at (zeros n) ⌝ }
+{
+    clear_u32(&mut s[at..], n);
 }
 
 // The first n entries become 0.

@@ -10,6 +10,7 @@ use lib.ListN.{length, take, drop, getD, length-map, length-reverse, List·getD-
 use lib.Seq.{take-at, getD-at, take-append-le, getD-take, getD-drop, length-take-le}
 use borrow.Author.Tests.{le-leb, lt-ltb, le-ltb, eq-eqb, ltb-true, ltb-false}
 use Rattle.laws.specs.Lists.{allOf, below, total, flat, padded, ascends}
+use Rattle.laws.specs.Fill.{zeros}
 use Rattle.laws.proofs.Members.{both-true, all-true, getD-member}
 use Rattle.laws.proofs.Lists.{below-out}
 use Rattle.model.specs.declared.Allow.{Allow}
@@ -26,7 +27,7 @@ use Rattle.search.proofs.Formed.{Row, Line, Lines, Good}
 use Rattle.calls.specs.Areas.{Store, laid, numberOf, rowOf, row, listOf, listsOf, recordOf, storeOf}
 use Rattle.calls.specs.RecordCheck.{layoutsFit, rowFits, routesFit, stoodOn, listFits, recordFits}
 use Rattle.calls.specs.Calls.{planOf}
-use Rattle.calls.proofs.Blocks.{zeros, map-below, getD-map, drop-wide}
+use Rattle.calls.proofs.Blocks.{map-below, getD-map, drop-wide}
 use Rattle.calls.proofs.Back.{Each, Six, Room, each-of, each-reverse, laid-front, row-back, wide-rows, noList, lists-order, list-back, getD-padded, entryCount, taken, routeLength}
 
 -- ---- rows

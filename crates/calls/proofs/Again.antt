@@ -11,6 +11,7 @@ use lib.Seq.{drop-at}
 use borrow.Author.Tests.{le-leb}
 use Rattle.laws.specs.Lists.{total, flat, padded}
 use Rattle.laws.proofs.Members.{both-true}
+use Rattle.laws.proofs.Stores.{length-padded}
 use Rattle.model.specs.declared.Rect.{Rect}
 use Rattle.model.specs.declared.Limits.{Limits}
 use Rattle.rects.specs.Windows.{centres}
@@ -20,7 +21,7 @@ use Rattle.search.specs.State.{Extensions, Layout, State}
 use Rattle.search.proofs.Formed.{Good}
 use Rattle.calls.specs.Areas.{Work, Store, countsLength, pointsLength, workFits, storeFits, laid, cleared, row, numbers, storeOf}
 use Rattle.calls.specs.Calls.{planOf}
-use Rattle.calls.proofs.Blocks.{length-padded, length-wide}
+use Rattle.calls.proofs.Blocks.{length-wide}
 use Rattle.calls.proofs.Back.{each-reverse, wide-rows, wide-lists, length-numbers, routeLength}
 use Rattle.calls.proofs.Sound.{points-room}
 use Rattle.calls.proofs.Accepted.{good-room, routes-pass}

@@ -1,19 +1,22 @@
 -- What is laid out is read back.
 use Prim.Native.Nat.{ℕ, zero, suc, _+_, _-_, _*_, _≤_, _<_}
 use mathlib.Core.Path.{_≡_, refl, sym, _∙_, ap, subst}
-use mathlib.Core.List.{List, [], _∷_, _++_, map, reverse, append-assoc, reverse-cons, reverse-append, reverse-reverse, List·Memᴰ, List·Memᴰ·head, List·Memᴰ·tail}
+use mathlib.Core.List.{List, [], _∷_, _++_, map, reverse, append-assoc, reverse-cons, reverse-append, reverse-reverse, List·Memᴰ, List·Memᴰ·head, List·Memᴰ·tail, map-append}
 use native.Mathlib.Omega.{arith}
 use native.Mathlib.Nat.{mul-comm}
 use lib.ListN.{length, take, drop, getD, length-map, length-reverse, List·getD-append}
 use lib.Seq.{take-append-seam, take-append-le, drop-drop, getD-drop}
 use Rattle.laws.specs.Lists.{below, span, total, flat, padded}
+use Rattle.laws.specs.Fill.{zeros}
+use Rattle.laws.proofs.Stores.{length-padded}
+use Rattle.laws.proofs.Tests.{below-last}
 use Rattle.model.specs.declared.Position.{Position}
 use Rattle.model.specs.declared.Limits.{Limits}
 use Rattle.model.specs.declared.Record.{Record}
 use Rattle.search.specs.State.{Reason, Running, Exhausted, StateLimit, ResultLimit, Extensions, Layout, State, state}
 use Rattle.layouts.specs.Inputs.{Inputs}
 use Rattle.calls.specs.Areas.{Store, laid, reasonOf, numberOf, rowOf, positions, numbers, pointsOf, listOf, listsOf, stateOf, recordOf, row, storeOf, pointsLength}
-use Rattle.calls.proofs.Blocks.{zeros, length-padded, map-below, below-snoc, map-append, getD-map, starts, drop-flat, Wide, drop-wide, take-padded}
+use Rattle.calls.proofs.Blocks.{map-below, getD-map, starts, drop-flat, Wide, drop-wide, take-padded}
 
 module _ {A : Type 0} where
   abbrev pub Each : (A → Type 0) → List A → Type 0
@@ -156,7 +159,7 @@ pub lists-order : (r : Record) (a : List ℕ) (k : ℕ) → reverse (map (listOf
 unfolding listsOf below span
 lists-order r a zero = refl
 lists-order r a (suc k) =
-    ap (λ (q : List ℕ). reverse (map (listOf r a) q)) (below-snoc k)
+    ap (λ (q : List ℕ). reverse (map (listOf r a) q)) (below-last k)
     ∙ ap reverse (map-append (listOf r a) (below k) (k ∷ []))
     ∙ reverse-append (map (listOf r a) (below k)) (listOf r a k ∷ [])
     ∙ ap (λ (q : List Extensions). listOf r a k ∷ q) (lists-order r a k)

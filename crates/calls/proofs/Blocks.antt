@@ -4,84 +4,25 @@ use mathlib.Core.Path.{_≡_, refl, sym, _∙_, ap}
 use mathlib.Core.List.{List, [], _∷_, _++_, map, append-assoc}
 use native.Mathlib.Omega.{arith}
 use native.Mathlib.Nat.{suc-mul, zero-mul}
-use lib.ListN.{length, take, drop, getD, replicate, length-append, length-replicate, take-append-drop}
+use lib.ListN.{length, take, drop, getD, length-append, take-append-drop}
 use lib.Seq.{take-append-seam, drop-append-add, take-at, drop-drop}
-use Rattle.laws.specs.Lists.{below, span, total, flat, padded}
+use Rattle.laws.specs.Lists.{below, total, flat, padded}
+use Rattle.laws.specs.Fill.{zeros, over}
+use Rattle.laws.proofs.Stores.{length-zeros}
+use Rattle.laws.proofs.Tables.{table-is}
 use Rattle.calls.specs.Areas.{laid}
 
-abbrev pub zeros : ℕ → List ℕ
-zeros n = replicate n 0
-
--- an area with ys stored from `at` on
-unfoldable pub over : List ℕ → ℕ → List ℕ → List ℕ
-over l at ys = (take at l ++ ys) ++ drop (at + length ys) l
-
-pub length-zeros : (n : ℕ) → length (zeros n) ≡ n
-length-zeros n = length-replicate {A = ℕ} n 0
-
-pub length-padded : (n : ℕ) (xs : List ℕ) → length xs ≤ n → length (padded n xs) ≡ n
-unfolding padded
-length-padded n xs h = length-append xs (zeros (n - length xs)) ∙ (let z = length-zeros (n - length xs) in let w : length xs + length (zeros (n - length xs)) ≡ n = omega arith in w)
-
--- ---- the numbers below n
 module _ {A : Type 0} where
   -- a list is what a function gives below its length
-  pub map-span : (f : ℕ → A) (d : A) (j : ℕ) (xs : List A) → ((k : ℕ) → k < length xs → f (j + k) ≡ getD xs k d) → map f (span j (length xs)) ≡ xs
-  unfolding span
-  map-span f d j [] h = refl
-  map-span f d j (x ∷ xs) h =
-      ap (λ (y : A). y ∷ map f (span (suc j) (length xs))) (ap f (let w : j ≡ j + 0 = omega arith in w) ∙ h 0 (omega arith))
-      ∙ ap (λ (q : List A). x ∷ q) (map-span f d (suc j) xs (λ k l. ap f (let w : suc j + k ≡ j + suc k = omega arith in w) ∙ h (suc k) (omega arith)))
-
   pub map-below : (f : ℕ → A) (d : A) (n : ℕ) (xs : List A) → n ≡ length xs → ((k : ℕ) → k < n → f k ≡ getD xs k d) → map f (below n) ≡ xs
-  unfolding below
-  map-below f d n xs e h =
-      ap (λ (m : ℕ). map f (span 0 m)) e
-      ∙ map-span f d 0 xs (λ k l. ap f (let w : 0 + k ≡ k = omega arith in w) ∙ h k (omega arith))
-
-  pub map-span-ext : (f g : ℕ → A) (j n : ℕ) → ((k : ℕ) → k < j + n → f k ≡ g k) → map f (span j n) ≡ map g (span j n)
-  unfolding span
-  map-span-ext f g j zero h = refl
-  map-span-ext f g j (suc n) h =
-      ap (λ (y : A). y ∷ map f (span (suc j) n)) (h j (omega arith))
-      ∙ ap (λ (q : List A). g j ∷ q) (map-span-ext f g (suc j) n (λ k l. h k (omega arith)))
-
-  pub map-below-ext : (f g : ℕ → A) (n : ℕ) → ((k : ℕ) → k < n → f k ≡ g k) → map f (below n) ≡ map g (below n)
-  unfolding below
-  map-below-ext f g n h = map-span-ext f g 0 n (λ k l. h k (omega arith))
+  map-below f d n xs e h = sym (table-is f n d xs (sym e) (λ k l. sym (h k l)))
 
   pub flat-append : (xs ys : List (List A)) → flat (xs ++ ys) ≡ flat xs ++ flat ys
   unfolding flat
   flat-append [] ys = refl
   flat-append (x ∷ xs) ys = ap (λ (q : List A). x ++ q) (flat-append xs ys) ∙ sym (append-assoc x (flat xs) (flat ys))
 
-pub span-snoc : (j n : ℕ) → span j (suc n) ≡ span j n ++ ((j + n) ∷ [])
-unfolding span
-span-snoc j zero = ap (λ (k : ℕ). k ∷ []) (let w : j ≡ j + 0 = omega arith in w)
-span-snoc j (suc n) = ap (λ (q : List ℕ). j ∷ q) (span-snoc (suc j) n ∙ ap (λ (k : ℕ). span (suc j) n ++ (k ∷ [])) (let w : suc j + n ≡ j + suc n = omega arith in w))
-
-pub below-snoc : (n : ℕ) → below (suc n) ≡ below n ++ (n ∷ [])
-unfolding below
-below-snoc n = span-snoc 0 n ∙ ap (λ (k : ℕ). span 0 n ++ (k ∷ [])) (let w : 0 + n ≡ n = omega arith in w)
-
-pub length-span : (j n : ℕ) → length (span j n) ≡ n
-unfolding span
-length-span j zero = refl
-length-span j (suc n) = ap suc (length-span (suc j) n)
-
-pub length-below : (n : ℕ) → length (below n) ≡ n
-unfolding below
-length-below n = length-span 0 n
-
 module _ {A B : Type 0} where
-  pub map-append : (f : A → B) (xs ys : List A) → map f (xs ++ ys) ≡ map f xs ++ map f ys
-  map-append f [] ys = refl
-  map-append f (x ∷ xs) ys = ap (λ (q : List B). f x ∷ q) (map-append f xs ys)
-
-  pub map-map : {C : Type 0} (g : B → C) (f : A → B) (xs : List A) → map g (map f xs) ≡ map (λ (x : A). g (f x)) xs
-  map-map g f [] = refl
-  map-map {C} g f (x ∷ xs) = ap (λ (q : List C). g (f x) ∷ q) (map-map g f xs)
-
   pub getD-map : (f : A → B) (xs : List A) (k : ℕ) (d : A) (e : B) → k < length xs → getD (map f xs) k e ≡ f (getD xs k d)
   getD-map f [] k d e h = absurd (omega arith)
   getD-map f (x ∷ xs) zero d e h = refl

@@ -3,7 +3,7 @@ use Prim.Native.Nat.{ℕ, zero, suc, _*_, _≤_, _<_}
 use mathlib.Core.Path.{_≡_, refl, _∙_, ap, subst}
 use mathlib.Core.Bool.{Bool, true, false, not, _||_, _&&_, false≢true}
 use mathlib.Core.Option.{none}
-use mathlib.Core.List.{List, [], _∷_, map, List·Memᴰ, Memᴰ·of-map}
+use mathlib.Core.List.{List, [], _∷_, map, List·Memᴰ, Memᴰ·of-map, map-map}
 use native.Mathlib.Omega.{arith}
 use native.Mathlib.Nat.{mul-le-mul-right}
 use lib.Dec.{leb, ltb, eqb}
@@ -31,7 +31,6 @@ use Rattle.search.proofs.Formed.{Row, Line, Lines, Listing, Formed, Good}
 use Rattle.calls.specs.Areas.{Store, reasonOf, rowOf, positions, pointsOf, listOf, listsOf, stateOf, storeFits}
 use Rattle.calls.specs.RecordCheck.{rowFits, routesFit, stoodOn, listFits, recordFits}
 use Rattle.calls.specs.Calls.{planOf}
-use Rattle.calls.proofs.Blocks.{map-map}
 use Rattle.calls.proofs.Clearing.{length-rowOf, length-entries}
 use Rattle.calls.proofs.Sound.{Sound, Long, sound, long, Clauses, clauses}
 use Rattle.calls.proofs.Whole.{Shape, length-lists, length-positions, points-length, length-routes-read, list-next}

@@ -1,24 +1,28 @@
 -- Clearing the unused entries leaves what was read, laid out.
 use Prim.Native.Nat.{ℕ, zero, suc, _+_, _-_, _*_, _≤_, _<_}
 use mathlib.Core.Path.{_≡_, sym, _∙_, ap}
-use mathlib.Core.List.{List, [], _∷_, _++_, map, reverse, append-nil, reverse-reverse}
+use mathlib.Core.List.{List, [], _∷_, _++_, map, reverse, append-nil, reverse-reverse, map-append, map-map}
 use native.Mathlib.Omega.{arith}
 use native.Mathlib.Nat.{suc-mul, zero-mul, mul-comm}
 use native.Mathlib.Numerals.{add-one}
 use lib.ListN.{length, take, drop, getD, length-append, length-drop}
 use lib.Seq.{drop-cons, length-take-le}
 use Rattle.laws.specs.Lists.{below, span, flat, padded}
+use Rattle.laws.specs.Fill.{zeros, over}
+use Rattle.laws.proofs.Stores.{length-padded}
+use Rattle.laws.proofs.Tests.{below-last}
+use Rattle.laws.proofs.Tables.{table-same}
 use Rattle.model.specs.declared.Record.{Record}
 use Rattle.search.specs.State.{Extensions}
 use Rattle.calls.specs.Areas.{laid, rowOf, listOf, listsOf, row}
-use Rattle.calls.proofs.Blocks.{zeros, over, length-padded, map-below-ext, below-snoc, map-append, map-map, flat-append, clear-one, clear-rest}
+use Rattle.calls.proofs.Blocks.{flat-append, clear-one, clear-rest}
 use Rattle.calls.proofs.Back.{lists-order}
 
 -- ---- blocks of one width
 pub flat-snoc : (f : ℕ → List ℕ) (k : ℕ) → flat (map f (below (suc k))) ≡ flat (map f (below k)) ++ f k
 unfolding flat
 flat-snoc f k =
-    ap (λ (q : List ℕ). flat (map f q)) (below-snoc k)
+    ap (λ (q : List ℕ). flat (map f q)) (below-last k)
     ∙ ap flat (map-append f (below k) (k ∷ []))
     ∙ flat-append (map f (below k)) (f k ∷ [])
     ∙ ap (λ (q : List ℕ). flat (map f (below k)) ++ q) (append-nil (f k))
@@ -95,7 +99,7 @@ row-begins a k h l =
 
 -- the rows that the state holds, laid out again
 pub rows-laid : (a : List ℕ) (m : ℕ) → flat (map row (map (rowOf a) (below m))) ≡ flat (map (λ (k : ℕ). padded 7 (rowUsed a k)) (below m))
-rows-laid a m = ap flat (map-map row (rowOf a) (below m) ∙ map-below-ext (λ (k : ℕ). row (rowOf a k)) (λ (k : ℕ). padded 7 (rowUsed a k)) m (λ k l. row-padded (rowOf a k)))
+rows-laid a m = ap flat (map-map row (rowOf a) (below m) ∙ table-same (λ (k : ℕ). row (rowOf a k)) (λ (k : ℕ). padded 7 (rowUsed a k)) m (λ k l. row-padded (rowOf a k)))
 
 -- ---- lists
 abbrev pub listUsed : Record → List ℕ → ℕ → List ℕ

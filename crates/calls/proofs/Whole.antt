@@ -2,20 +2,21 @@
 use Prim.Native.Nat.{ℕ, zero, suc, _+_, _-_, _*_, _≤_, _<_}
 use mathlib.Core.Path.{_≡_, refl, sym, _∙_, ap}
 use mathlib.Core.Bool.{true}
-use mathlib.Core.List.{List, [], _∷_, _++_, map, reverse}
+use mathlib.Core.List.{List, [], _∷_, _++_, map, reverse, map-map}
 use native.Mathlib.Omega.{arith}
 use native.Mathlib.Nat.{suc-mul, mul-le-mul-right}
 use lib.ListN.{length, take, drop, getD, length-map, length-drop, take-append-drop}
 use lib.Seq.{take-suc, take-add, getD-take, length-take-le}
 use Rattle.laws.specs.Lists.{below, span, total, flat, padded}
-use Rattle.laws.proofs.Lists.{sum-append}
+use Rattle.laws.specs.Fill.{zeros, over}
+use Rattle.laws.proofs.Lists.{sum-append, length-below}
 use Rattle.model.specs.declared.Limits.{Limits}
 use Rattle.model.specs.declared.Record.{Record}
 use Rattle.search.specs.State.{Extensions, Layout, state}
 use Rattle.layouts.specs.Inputs.{Inputs}
 use Rattle.calls.specs.Areas.{Store, laid, reasonOf, numberOf, rowOf, positions, numbers, pointsOf, listOf, listsOf, stateOf, recordOf, row, storeOf, pointsLength, storeFits}
 use Rattle.calls.specs.RecordCheck.{recordFits}
-use Rattle.calls.proofs.Blocks.{zeros, over, map-below, length-below, map-map, clear-rest}
+use Rattle.calls.proofs.Blocks.{map-below, clear-rest}
 use Rattle.calls.proofs.Clearing.{flat-snoc, upTo, begin, next, rest, rowUsed, length-rowOf, row-begins, rows-laid, listUsed, length-entries, list-begins, lists-made, lists-laid}
 use Rattle.calls.proofs.Sound.{Sound, Long, sound, long}
 

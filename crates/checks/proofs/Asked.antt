@@ -30,12 +30,6 @@ first-stops [] ys r e = absurd (Option·none-ne-some r e)
 first-stops (none ∷ xs) ys r e = first-stops xs ys r e
 first-stops (some q ∷ xs) ys r e = e
 
-pub first-both : (xs ys : List (Option Said)) → first (xs ++ ys) ≡ none → (first xs ≡ none) × (first ys ≡ none)
-unfolding first
-first-both [] ys e = (refl, e)
-first-both (none ∷ xs) ys e = first-both xs ys e
-first-both (some r ∷ xs) ys e = absurd (Option·none-ne-some r (sym e))
-
 -- ---- the parts
 pub query-parts : (i : Inputs) (long : Bool) → queryChecks i long ≡ frameChecks i ++ areaChecks i long
 unfolding queryChecks frameChecks framesOf areaChecks areasOf moversSmall allowSmall basesFit allowLong bytesFit bytesTo allowBytes

@@ -9,6 +9,7 @@ use lib.ListN.{length}
 use borrow.Author.Tests.{leb-true}
 use Rattle.laws.specs.Lists.{allOf, total}
 use Rattle.laws.proofs.Members.{both}
+use Rattle.calls.proofs.StepLaws.{first-both}
 use Rattle.model.specs.Answers.{Said, ask, first, replyOf, saidOf}
 use Rattle.model.proofs.Asking.{ask-passes, first-passes}
 use Rattle.model.specs.declared.Answer.{Answer}
@@ -23,7 +24,7 @@ use Rattle.calls.specs.Areas.{Work, Store, workFits, storeFits}
 use Rattle.calls.specs.Checks.{groupChecks, limitChecks}
 use Rattle.calls.specs.Calls.{beginChecks}
 use Rattle.checks.specs.Parts.{allowSmall, allowLong, bytesTo, allowBytes, framesOf, frameChecks, areasOf, areaChecks}
-use Rattle.checks.proofs.Asked.{first-then, first-stops, first-both, query-parts}
+use Rattle.checks.proofs.Asked.{first-then, first-stops, query-parts}
 
 -- ---- an answer of the code as one of the paper's
 pub done-passes : {o : Option Said} {a : Answer} → replyOf a ≡ o → a ≡ Done → o ≡ none

@@ -6,8 +6,8 @@ use native.Mathlib.Omega.{arith}
 use lib.ListN.{length, take, drop-of-length-le}
 use lib.Seq.{length-take-le}
 use Rattle.laws.specs.Lists.{padded}
-use Rattle.calls.proofs.Blocks.{zeros, over}
-use Rattle.clear.proofs.Laws.{length-zeros, Copied, copied-end}
+use Rattle.laws.specs.Fill.{zeros, over}
+use Rattle.laws.proofs.Stores.{length-zeros}
 
 pub array-cleared : (xs : List ℕ) (at n : ℕ) → length xs ≡ n → at ≤ n → over xs at (zeros (n - at)) ≡ padded n (take at xs)
 unfolding over padded
@@ -16,6 +16,3 @@ array-cleared xs at n e h =
     ap (λ (q : List ℕ). (take at xs ++ zeros (n - at)) ++ q) (drop-of-length-le xs (let w : length xs ≤ at + length (zeros (n - at)) = omega arith in w))
     ∙ append-nil (take at xs ++ zeros (n - at))
     ∙ ap (λ (m : ℕ). take at xs ++ zeros (n - m)) (sym (length-take-le at xs (let w : at ≤ length xs = omega arith in w)))
-
-pub array-end : (xs : List ℕ) (at n i : ℕ) (a : List ℕ) → length xs ≡ n → at ≤ n → Copied xs at (zeros (n - at)) i a → n - at ≤ i → i ≤ n - at → a ≡ padded n (take at xs)
-array-end xs at n i a e h c p q = let z = length-zeros (n - at) in copied-end xs at (zeros (n - at)) i a c (omega arith) (omega arith) ∙ array-cleared xs at n e h

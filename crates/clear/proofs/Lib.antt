@@ -1,4 +1,3 @@
-pub mod Laws
 pub mod RowLaws
 pub mod ListLaws
 pub mod ArrayLaws

@@ -7,13 +7,13 @@ use native.Mathlib.Numerals.{add-one}
 use native.Mathlib.Nat.{suc-mul, mul-le-mul-right}
 use lib.ListN.{length, getD}
 use Rattle.laws.specs.Lists.{below, flat, padded}
+use Rattle.laws.specs.Fill.{zeros, over}
+use Rattle.laws.proofs.Stores.{length-zeros, length-over}
 use Rattle.model.specs.declared.Record.{Record}
 use Rattle.search.specs.State.{Extensions}
 use Rattle.calls.specs.Areas.{laid, listsOf}
-use Rattle.calls.proofs.Blocks.{zeros, over}
 use Rattle.clear.specs.Stores.{ListsIn}
 use Rattle.calls.proofs.Whole.{clearLists, clearFrom, lists-cleared}
-use Rattle.clear.proofs.Laws.{length-zeros, length-over}
 
 -- the first k lists are cleared
 pub record Swept (a₀ : List ℕ) (n m : ℕ) (ls : List ℕ) (k : ℕ) (a : List ℕ) : Type 0 where

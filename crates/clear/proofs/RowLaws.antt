@@ -7,12 +7,12 @@ use native.Mathlib.Numerals.{add-one}
 use lib.ListN.{length, drop, getD}
 use lib.Seq.{getD-append-add, getD-drop}
 use Rattle.laws.specs.Lists.{below, flat, padded}
+use Rattle.laws.specs.Fill.{zeros, over}
+use Rattle.laws.proofs.Stores.{length-zeros, length-padded, length-over}
 use Rattle.calls.specs.Areas.{laid, rowOf, row}
-use Rattle.calls.proofs.Blocks.{zeros, over, length-padded}
 use Rattle.clear.specs.Stores.{RowsIn}
 use Rattle.calls.proofs.Clearing.{upTo, rowUsed, row-begins, length-blocks}
 use Rattle.calls.proofs.Whole.{clearRows, clearFrom, rows-up, rows-cleared}
-use Rattle.clear.proofs.Laws.{length-zeros, length-over}
 
 -- the first k rows are cleared
 pub record Cleared (a₀ : List ℕ) (count n k : ℕ) (a : List ℕ) : Type 0 where

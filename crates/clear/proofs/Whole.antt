@@ -6,6 +6,7 @@ use mathlib.Core.List.{List, map, reverse}
 use native.Mathlib.Omega.{arith}
 use lib.ListN.{length, take}
 use Rattle.laws.specs.Lists.{below, total, flat, padded}
+use Rattle.laws.specs.Fill.{zeros, over}
 use Rattle.model.specs.declared.Limits.{Limits}
 use Rattle.model.specs.declared.Query.{Query}
 use Rattle.model.specs.declared.Record.{Record}
@@ -18,15 +19,14 @@ use Rattle.calls.proofs.Checked.{routes-sum}
 use Rattle.calls.proofs.Whole as whole
 use Rattle.lengths.specs.Lengths.{pointsRoom}
 use Rattle.lengths.proofs.Fits.{points-room-is}
-use Rattle.clear.specs.Stores.{zeroed, tidy, Sized, Used, Passing, LaidBack}
-use Rattle.clear.proofs.Laws.{zeroed-over}
+use Rattle.clear.specs.Stores.{tidy, Sized, Used, Passing, LaidBack}
 
 -- what each part is after clearing
 pub record Parts (q : Query) (l : Limits) (r : Record) (lists visited layouts points lists′ visited′ layouts′ points′ : List ℕ) : Type 0 where
   pub listsAre : lists′ ≡ laid (6 * r .placements) (flat (map (λ (e : Extensions). padded (r .placements) (e .entries)) (reverse (listsOf r lists (r .lists))))) lists
   pub visitedAre : visited′ ≡ laid (7 * l .states) (flat (map row (map (rowOf visited) (below (r .evaluations))))) visited
   pub layoutsAre : layouts′ ≡ laid (7 * l .results) (flat (map row (map (rowOf layouts) (below (r .layouts))))) layouts
-  pub pointsAre : points′ ≡ zeroed points (2 * total (take (r .layouts) (r .routes))) (pointsRoom q l - 2 * total (take (r .layouts) (r .routes)))
+  pub pointsAre : points′ ≡ over points (2 * total (take (r .layouts) (r .routes))) (zeros (pointsRoom q l - 2 * total (take (r .layouts) (r .routes))))
 
 module _ (i : Inputs) (q : Query) (l : Limits) (r : Record) (lists visited layouts points lists′ visited′ layouts′ points′ : List ℕ) where
   pub laid-back : Sized r → l .results ≤ 32 → Parts q l r lists visited layouts points lists′ visited′ layouts′ points′ → Passing i q l r (storeIn lists visited layouts points)
@@ -45,8 +45,8 @@ module _ (i : Inputs) (q : Query) (l : Limits) (r : Record) (lists visited layou
       p .layoutsAre ∙ sym (whole.rows-cleared layouts (r .layouts) (7 * l .results) (s .walls) (omega (arith, s .shown)) (o .layouts)) ∙ sym (ap (λ (b : Store). b .layouts) w) in
       let at : ℕ = 2 * total (take (r .layouts) (r .routes)) in
       let e4 : points′ ≡ storeOf i l (stateOf r a) a .points =
-      p .pointsAre ∙ ap (λ (n : ℕ). zeroed points at (n - at)) (sym (points-room-is i l ∙ ap (λ (q : Query). pointsRoom q l) (c .query)))
-      ∙ zeroed-over points at (pointsLength i l - at) ∙ sym (ap (λ (b : Store). b .points) w) in
+      p .pointsAre ∙ ap (λ (n : ℕ). over points at (zeros (n - at))) (sym (points-room-is i l ∙ ap (λ (q : Query). pointsRoom q l) (c .query)))
+      ∙ sym (ap (λ (b : Store). b .points) w) in
       record { store = cc (e1, e3, e4); rec = sym (whole.record-cleared i l r a shape few (c .areas) (c .fits)) }
 
 -- what 16 tells

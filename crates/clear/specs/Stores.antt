@@ -1,9 +1,9 @@
 -- What the clearing of unused entries is given, and what it leaves.
-use Prim.Native.Nat.{ℕ, _+_, _*_, _≤_, _<_}
+use Prim.Native.Nat.{ℕ, _*_, _≤_, _<_}
 use mathlib.Core.Path.{_≡_}
 use mathlib.Core.Bool.{true}
-use mathlib.Core.List.{List, _++_}
-use lib.ListN.{length, take, drop, getD, replicate}
+use mathlib.Core.List.{List}
+use lib.ListN.{length, take, getD}
 use Rattle.laws.specs.Lists.{total, padded}
 use Rattle.model.specs.declared.Limits.{Limits}
 use Rattle.model.specs.declared.Query.{Query}
@@ -13,10 +13,6 @@ use Rattle.layouts.specs.Inputs.{Inputs}
 use Rattle.calls.specs.Areas.{Store, storeFits, stateOf, recordOf, storeOf}
 use Rattle.calls.specs.RecordCheck.{recordFits}
 use Rattle.lengths.specs.Lengths.{pointsRoom}
-
--- an area with n zeros stored from `at` on
-unfoldable pub zeroed : List ℕ → ℕ → ℕ → List ℕ
-zeroed l at n = (take at l ++ replicate n 0) ++ drop (at + n) l
 
 -- k rows of at most six members stand in the first n entries
 pub record RowsIn (a : List ℕ) (k n : ℕ) : Type 0 where

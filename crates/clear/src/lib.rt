@@ -10,36 +10,12 @@ ghost use Rattle.laws.specs.Lists.{below, flat, padded, total};
 ghost use Rattle.layouts.specs.Inputs.{Inputs};
 ghost use Rattle.search.specs.State.{Extensions};
 ghost use Rattle.calls.specs.Areas.{laid, rowOf, row, listsOf, storeIn};
-ghost use Rattle.clear.specs.Stores.{zeroed, RowsIn, ListsIn, tidy, Sized, Used, Passing, LaidBack};
+ghost use Rattle.clear.specs.Stores.{RowsIn, ListsIn, tidy, Sized, Used, Passing, LaidBack};
 
 fn index(n: u32) -> usize
     ensures { λ r. ⌜ r ≡ n ⌝ }
 {
     n as usize
-}
-
-// Clears n entries of the area, from `at` on.
-fn clear_in(area: &mut [u16], at: usize, n: usize)
-    requires { ⌜ at + n ≤ length (now area) ⌝ }
-    ensures { λ _. ⌜ now (area .exit) ≡ zeroed (now (area .entry)) at n ⌝ }
-{
-    let mut i = 0;
-    while i < n {
-        area[at + i] = 0;
-        i = i + 1;
-    }
-}
-
-// Clears n points' numbers, from `at` on.
-fn clear_points(area: &mut [u32], at: usize, n: usize)
-    requires { ⌜ at + n ≤ length (now area) ⌝ }
-    ensures { λ _. ⌜ now (area .exit) ≡ zeroed (now (area .entry)) at n ⌝ }
-{
-    let mut i = 0;
-    while i < n {
-        area[at + i] = 0;
-        i = i + 1;
-    }
 }
 
 // Clears the unused members of the first `count` rows, and all that follows them up to n.
@@ -50,10 +26,10 @@ fn clear_rows(area: &mut [u16], count: usize, n: usize)
     let mut k = 0;
     while k < count {
         let used = area[k * 7] as usize;
-        clear_in(area, k * 7 + (used + 1), 6 - used);
+        areas::clear_u16_from(area, k * 7 + (used + 1), 6 - used);
         k = k + 1;
     }
-    clear_in(area, count * 7, n - count * 7);
+    areas::clear_u16_from(area, count * 7, n - count * 7);
 }
 
 // Clears the unused entries of the lists, and all that follows them up to six times the placements.
@@ -67,10 +43,10 @@ fn clear_lists(area: &mut [u16], rec: Record)
     let mut k = 0;
     while k < lists {
         let used = lengths[k] as usize;
-        clear_in(area, k * places + used, places - used);
+        areas::clear_u16_from(area, k * places + used, places - used);
         k = k + 1;
     }
-    clear_in(area, lists * places, 6 * places - lists * places);
+    areas::clear_u16_from(area, lists * places, 6 * places - lists * places);
 }
 
 // The routes' lengths with zeros from `from` on.
@@ -79,12 +55,7 @@ fn cleared_routes(xs: [u32; 32], from: usize) -> [u32; 32]
     ensures { λ r. ⌜ (r ≡ padded 32 (take from xs)) × (length xs ≡ 32) ⌝ }
 {
     let mut out = xs;
-    let n = 32 - from;
-    let mut i = 0;
-    while i < n {
-        out[from + i] = 0;
-        i = i + 1;
-    }
+    areas::clear_u32_from(&mut out, from, 32 - from);
     out
 }
 
@@ -94,28 +65,8 @@ fn cleared_numbers(xs: [u32; 6], from: usize) -> [u32; 6]
     ensures { λ r. ⌜ (r ≡ padded 6 (take from xs)) × (length xs ≡ 6) ⌝ }
 {
     let mut out = xs;
-    let n = 6 - from;
-    let mut i = 0;
-    while i < n {
-        out[from + i] = 0;
-        i = i + 1;
-    }
+    areas::clear_u32_from(&mut out, from, 6 - from);
     out
-}
-
-// How many points the first `count` routes have together.
-fn kept_points(routes: [u32; 32], count: usize) -> usize
-    requires { ⌜ (count ≤ 32) × (total (take count routes) ≤ 1000000) ⌝ }
-    ensures { λ r. ⌜ r ≡ total (take count routes) ⌝ }
-{
-    let mut sum = 0;
-    let mut i = 0;
-    while i < count {
-        let points = index(routes[i]);
-        sum += points;
-        i += 1;
-    }
-    sum
 }
 
 // The record with its unused entries zero.
@@ -159,7 +110,7 @@ pub fn clear_unused(
     clear_rows(visited, index(rec.evaluations), 7 * index(limits.states));
     clear_rows(layouts, index(rec.layouts), 7 * index(limits.results));
     let routes = rec.routes;
-    let used = 2 * kept_points(routes, index(rec.layouts));
-    clear_points(points, used, lengths::points_length(query, limits) - used);
+    let used = 2 * rows::kept_points(routes, index(rec.layouts));
+    areas::clear_u32_from(points, used, lengths::points_length(query, limits) - used);
     tidied(rec)
 }

@@ -12,7 +12,8 @@ use lib.Dec.{eqb}
 use lib.ListN.{length, getD, take, drop, replicate, length-append, length-drop, length-replicate}
 use lib.Seq.{drop-append-seam, take-all}
 use Rattle.laws.specs.Lists.{allOf, isSome, without, ascends}
-use Rattle.laws.proofs.Turns.{all-more, all-miss}
+use Rattle.laws.proofs.Turns.{all-more}
+use Rattle.laws.proofs.Tests.{all-false}
 use Rattle.model.specs.declared.Rect.{Rect}
 use Rattle.rects.specs.Windows.{width, height, centres}
 use Rattle.routes.specs.Edges.{Step, windowEdges}
@@ -109,7 +110,7 @@ module _ (w : Rect) (steps : List Step) (start end : ℕ) (m : Mover) (s : List 
 
     pub lifting-stop : (r : Bool) → k < length s → r ≡ isSome (passed w steps start end m (lift k s)) → r ≡ false → false ≡ minimal w steps start end m s
     unfolding minimal
-    lifting-stop r h e f = sym (all-miss lifts s k 0 h (at-lift k h r e ∙ f))
+    lifting-stop r h e f = sym (all-false lifts 0 s k h (at-lift k h r e ∙ f))
 
     pub lifting-all : length s ≤ k → true ≡ minimal w steps start end m s
     unfolding minimal

@@ -9,7 +9,8 @@ use lib.Dec.{eqb, ltb}
 use lib.ListN.{length, getD, set, take, drop, length-append, length-set}
 use lib.Seq.{take-all, drop-cons, set-at}
 use Rattle.laws.specs.Lists.{anyOf, select, below, member}
-use Rattle.laws.proofs.Turns.{any-more, any-hit, filter-hit, filter-miss, below-suc}
+use Rattle.laws.proofs.Turns.{any-more, any-hit, filter-hit, filter-miss}
+use Rattle.laws.proofs.Tests.{below-last}
 use Rattle.layouts.specs.Boards.{Places, used, mayJoin}
 use Rattle.extend.specs.Join.{freeSlot, Listed}
 
@@ -60,13 +61,13 @@ module _ (f : ℕ → Bool) (area : List ℕ) where
 
   pub listed-skip : (area′ : List ℕ) (k i : ℕ) → f i ≡ false → Listed (select f (below i)) area area′ k → Listed (select f (below (i + 1))) area area′ k
   listed-skip area′ k i e l =
-      let q : select f (below (i + 1)) ≡ select f (below i) = rw (add-one, below-suc i) (filter-miss f (below i) i e) in
+      let q : select f (below (i + 1)) ≡ select f (below i) = rw (add-one, below-last i) (filter-miss f (below i) i e) in
       rw q l
 
   pub listed-add : (area′ : List ℕ) (k i : ℕ) → f i ≡ true → k < length area → Listed (select f (below i)) area area′ k
       → Listed (select f (below (i + 1))) area (set area′ k i) (k + 1)
   listed-add area′ k i e h l =
-      let q : select f (below (i + 1)) ≡ select f (below i) ++ (i ∷ []) = rw (add-one, below-suc i) (filter-hit f (below i) i e) in
+      let q : select f (below (i + 1)) ≡ select f (below i) ++ (i ∷ []) = rw (add-one, below-last i) (filter-hit f (below i) i e) in
       rw q
       (record {
         count = omega (arith, l .count, length-append (select f (below i)) (i ∷ []));

@@ -14,7 +14,7 @@ use Rattle.laws.specs.Ints.{up, dn}
 use Rattle.laws.proofs.Ints.{add-parts, eq-parts}
 use Rattle.laws.specs.Lists.{anyOf}
 use Rattle.laws.proofs.Members.{either}
-use Rattle.laws.proofs.Turns.{any-append}
+use Rattle.laws.proofs.Tests.{any-append}
 use Rattle.model.specs.declared.Rect.{Rect}
 use Rattle.model.specs.declared.Bounds.{Bounds}
 use Rattle.rects.specs.declared.Span.{Span}

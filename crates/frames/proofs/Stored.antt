@@ -8,17 +8,18 @@ use native.Mathlib.Nat.{suc-mul, mul-le-mul-right}
 use lib.ListN.{length, take, drop, getD, set, length-append, length-map}
 use lib.Seq.{take-at}
 use Rattle.laws.specs.Lists.{flat, padded, total}
+use Rattle.laws.specs.Fill.{zeros, over}
 use Rattle.laws.proofs.Lists.{length-snoc}
+use Rattle.laws.proofs.Stores.{length-padded}
 use Rattle.model.specs.declared.Record.{Record}
 use Rattle.layouts.specs.Boards.{Board}
 use Rattle.search.specs.State.{Running, Extensions, Layout, pointsKept}
 use Rattle.search.proofs.Moves.{held}
 use Rattle.search.proofs.Formed.{Lines}
 use Rattle.calls.specs.Areas.{laid, row, numbers, recordOf}
-use Rattle.rows.specs.Lay.{zeros, over}
-use Rattle.rows.proofs.Stores.{length-padded, padded-add, padded-set, padded-trail, padded-free}
+use Rattle.calls.proofs.Back.{length-numbers}
+use Rattle.rows.proofs.Stores.{padded-add, padded-set, padded-trail, padded-free}
 use Rattle.rows.proofs.Blocks.{flat-snoc, length-flat}
-use Rattle.rows.proofs.Points.{length-numbers}
 use Rattle.turns.specs.Held.{stackOf, enteredRec, pushedRec, listedRec}
 use Rattle.turns.proofs.Laying.{longs, nexts, made-snoc, length-made, stack-snoc, length-stack}
 

@@ -10,7 +10,9 @@ use lib.ListN.{length, take, drop, getD, replicate, length-take, length-drop, re
 use lib.Seq.{getD-take, drop-at}
 use borrow.Author.Tests.{leb-true, leb-false, eqb-true, eqb-false}
 use Rattle.laws.specs.Lists.{flat}
+use Rattle.laws.specs.Fill.{zeros, over}
 use Rattle.laws.proofs.Members.{either, getD-member}
+use Rattle.laws.proofs.Stores.{length-zeros, drop-zeros}
 use Rattle.model.specs.declared.Record.{Record}
 use Rattle.rects.specs.Windows.{centres}
 use Rattle.rects.proofs.Windows.{framed}
@@ -24,8 +26,7 @@ use Rattle.search.proofs.Moves.{held, Fresh}
 use Rattle.search.proofs.Formed.{Lines, lines-fit, length-setOn}
 use Rattle.calls.specs.Areas.{Store, laid, row, numbers, pointsLength}
 use Rattle.calls.specs.Calls.{planOf}
-use Rattle.rows.specs.Lay.{zeros, over, Stood, SomeStood}
-use Rattle.rows.proofs.Stores.{length-zeros, drop-zeros}
+use Rattle.rows.specs.Lay.{Stood, SomeStood}
 use Rattle.rows.proofs.Blocks.{length-flat}
 use Rattle.rows.proofs.Sets.{length-row, row-head}
 use Rattle.turns.specs.Held.{stackOf, Part, Ripe, keptIn, Listable, LookedAt, Listing, enteredRec, pushedRec, listedRec, stopRec}

@@ -8,6 +8,8 @@ use native.Mathlib.Omega.{arith}
 use native.Mathlib.Nat.{mul-le-mul-right}
 use lib.ListN.{length, take, drop, length-map, take-append-drop}
 use Rattle.laws.specs.Lists.{flat, padded}
+use Rattle.laws.specs.Fill.{zeros, over}
+use Rattle.laws.proofs.Stores.{drop-zeros, length-padded, over-part}
 use Rattle.model.specs.declared.Position.{Position}
 use Rattle.model.specs.declared.Record.{Record}
 use Rattle.model.specs.declared.Allow.{Allow}
@@ -23,8 +25,6 @@ use Rattle.search.proofs.Limits.{pointsKept-snoc, pointsKept-bound}
 use Rattle.search.proofs.Formed.{Good, length-setOn}
 use Rattle.calls.specs.Areas.{Store, numberOf, laid, row, numbers, pointsLength, recordOf, storeOf}
 use Rattle.calls.specs.Calls.{planOf}
-use Rattle.rows.specs.Lay.{zeros, over}
-use Rattle.rows.proofs.Stores.{drop-zeros, length-padded, over-part}
 use Rattle.rows.proofs.Sets.{length-row}
 use Rattle.turns.specs.Held.{stackOf, rowsOf, Fitting, Part, SomePart, LookedAt, stopRec, enteredRec, pushedRec, listedRec}
 use Rattle.turns.proofs.Laying.{summed, record-stop}

@@ -23,8 +23,9 @@ use Rattle.layouts.specs.Flat.{placementsOf, inputsOf}
 use Rattle.calls.specs.Areas.{Work, workFits}
 use Rattle.calls.specs.Checks.{groupChecks, queryChecks, placeChecks}
 use Rattle.calls.specs.Calls.{selectionFits, judgeChecks}
+use Rattle.calls.proofs.StepLaws.{first-both}
 use Rattle.checks.specs.Parts.{allowSmall, allowLong, framesOf, frameChecks, areasOf, areaChecks}
-use Rattle.checks.proofs.Asked.{first-then, first-stops, first-both, query-parts}
+use Rattle.checks.proofs.Asked.{first-then, first-stops, query-parts}
 use Rattle.checks.proofs.Passed.{Framing, Spacious, frames-found, areas-found}
 use Rattle.checks.proofs.Placed.{places-whole}
 use Rattle.extend.specs.Join.{Rowed}

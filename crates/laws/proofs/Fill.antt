@@ -1,24 +1,24 @@
--- Filling, clearing and copying an area: one law over the element type. A loop writes f i at each i below n; clearing is a constant f, copying reads f off another area.
-use mathlib.Core.Path.{_≡_, refl, sym, ap, ap₂, _∙_}
+-- Filling, clearing and copying an area: one law over the place and the element type. A loop writes f i at `at` + i for each i below n; clearing is a constant f,
+-- copying reads f off another area.
+use mathlib.Core.Path.{_≡_, refl, sym, ap, subst, _∙_}
 use mathlib.Core.List.{List, [], _∷_, _++_, map}
 use Prim.Native.Nat.{ℕ, zero, suc, _+_, _≤_, _<_}
 use native.Mathlib.Numerals.{add-one}
 use native.Mathlib.Omega.{arith}
-use lib.ListN.{length, getD, set, take, drop, replicate, length-append, length-drop, length-map, length-set}
-use lib.Seq.{drop-cons}
+use lib.ListN.{length, getD, set, take, drop, replicate, length-drop, length-set, take-append-drop}
+use lib.Seq.{drop-cons, length-take-le}
 use Rattle.laws.specs.Lists.{span, below}
-use Rattle.laws.specs.Fill.{filled, Filling}
-
-pub length-span : (k n : ℕ) → length (span k n) ≡ n
-unfolding span
-length-span k zero = refl
-length-span k (suc n) = ap suc (length-span (suc k) n)
+use Rattle.laws.specs.Fill.{over, filled, filledFrom, FillingFrom, Filling}
+use Rattle.laws.proofs.Lists.{map-getD}
+use Rattle.laws.proofs.Stores.{over-part}
+use Rattle.laws.proofs.Tables.{length-table, table-same}
 
 module _ {A : Type 0} where
   -- ---- the loop
-  pub filled-none : (f : ℕ → A) (v : List A) → filled f 0 v ≡ v
-  unfolding filled below span
-  filled-none f v = refl
+  set-past : (xs ys : List A) (i k : ℕ) (x : A) → k ≡ length xs + i → set (xs ++ ys) k x ≡ xs ++ set ys i x
+  set-past [] ys i k x e = let q : k ≡ i = omega arith in rw q
+  set-past (y ∷ xs) ys i zero x e = absurd (omega arith)
+  set-past (y ∷ xs) ys i (suc k) x e = ap (λ (l : List A). y ∷ l) (set-past xs ys i k x (omega arith))
 
   more-from : (f : ℕ → A) (k i j : ℕ) (v : List A) → j ≡ k + i → i < length v → set (map f (span k i) ++ drop i v) i (f j) ≡ map f (span k (suc i)) ++ drop (suc i) v
   unfolding span
@@ -26,37 +26,56 @@ module _ {A : Type 0} where
   more-from f k zero j (x ∷ v) e h = let q : j ≡ k = omega arith in rw q
   more-from f k (suc i) j (x ∷ v) e h = ap (λ (l : List A). f k ∷ l) (more-from f (suc k) i j v (omega arith) (omega arith))
 
-  pub filled-more : (f : ℕ → A) (i : ℕ) (v : List A) → i < length v → set (filled f i v) i (f i) ≡ filled f (i + 1) v
-  unfolding filled below
-  filled-more f i v h = rw (add-one i) (more-from f 0 i i v (omega arith) h)
+  module _ (f : ℕ → A) (at : ℕ) (v : List A) where
+    filled-none : filledFrom f at 0 v ≡ v
+    unfolding filledFrom filled below span
+    filled-none = take-append-drop at v
 
-  pub length-filled : (f : ℕ → A) (n : ℕ) (v : List A) → n ≤ length v → length (filled f n v) ≡ length v
-  unfolding filled below
-  length-filled f n v h = omega (arith, length-append (map f (span 0 n)) (drop n v), length-map (span 0 n) f, length-span 0 n, length-drop n v)
+    filled-more : (i : ℕ) → at + i < length v → set (filledFrom f at i v) (at + i) (f i) ≡ filledFrom f at (i + 1) v
+    unfolding filledFrom filled below
+    filled-more i h =
+        let l = length-take-le at v (let w : at ≤ length v = omega arith in w) in
+        set-past (take at v) (map f (span 0 i) ++ drop i (drop at v)) i (at + i) (f i) (omega arith)
+        ∙ ap (λ (q : List A). take at v ++ q) (more-from f 0 i i (drop at v) (omega arith) (omega (arith, length-drop at v)))
+        ∙ ap (λ (k : ℕ). take at v ++ (map f (span 0 k) ++ drop k (drop at v))) (sym (add-one i))
 
-  module _ (f : ℕ → A) (n : ℕ) (v₀ : List A) (room : n ≤ length v₀) where
-    pub filling-none : Filling f n v₀ v₀ 0
-    filling-none = record { upto = omega arith; size = refl; holds = sym (filled-none f v₀) }
+    -- as a part stored
+    pub filled-over : (n : ℕ) → filledFrom f at n v ≡ over v at (map f (below n))
+    unfolding filledFrom filled
+    filled-over n = over-part v at n (map f (below n)) (length-table f n)
 
-    pub filling-more : (v : List A) (i : ℕ) (x : A) → i < n → x ≡ f i → Filling f n v₀ v i → Filling f n v₀ (set v i x) (i + 1)
-    filling-more v i x h e t = record {
+  module _ (f : ℕ → A) (at n : ℕ) (v₀ : List A) (room : at + n ≤ length v₀) where
+    pub filling-from-none : FillingFrom f at n v₀ v₀ 0
+    filling-from-none = record { upto = omega arith; size = refl; holds = sym (filled-none f at v₀) }
+
+    pub filling-from-more : (v : List A) (i : ℕ) (x : A) → i < n → x ≡ f i → FillingFrom f at n v₀ v i → FillingFrom f at n v₀ (set v (at + i) x) (i + 1)
+    filling-from-more v i x h e t = record {
       upto = omega arith;
-      size = length-set v i x ∙ t .size;
-      holds = rw (t .holds, e) (filled-more f i v₀ (omega arith));
+      size = length-set v (at + i) x ∙ t .size;
+      holds = rw (t .holds, e) (filled-more f at v₀ i (omega arith));
     }
 
+    pub filling-from-all : (v : List A) (i : ℕ) → n ≤ i → FillingFrom f at n v₀ v i → v ≡ filledFrom f at n v₀
+    filling-from-all v i h t = let e : i ≡ n = omega (arith, t .upto) in t .holds ∙ ap (λ (k : ℕ). filledFrom f at k v₀) e
+
+  -- the case at place 0
+  module _ (f : ℕ → A) (n : ℕ) (v₀ : List A) (room : n ≤ length v₀) where
+    pub filling-none : Filling f n v₀ v₀ 0
+    filling-none = filling-from-none f 0 n v₀ (omega arith)
+
+    pub filling-more : (v : List A) (i : ℕ) (x : A) → i < n → x ≡ f i → Filling f n v₀ v i → Filling f n v₀ (set v i x) (i + 1)
+    filling-more v i x h e t =
+        let z : 0 + i ≡ i = omega arith in
+        subst (λ (k : ℕ). Filling f n v₀ (set v k x) (i + 1)) z (filling-from-more f 0 n v₀ (omega arith) v i x h e t)
+
     pub filling-all : (v : List A) (i : ℕ) → n ≤ i → Filling f n v₀ v i → v ≡ filled f n v₀
-    filling-all v i h t = let e : i ≡ n = omega (arith, t .upto) in t .holds ∙ ap (λ (k : ℕ). filled f k v₀) e
+    unfolding filledFrom
+    filling-all v i h t = filling-from-all f 0 n v₀ (omega arith) v i h t
 
   -- ---- what is written
-  same-from : (f g : ℕ → A) (k n : ℕ) → ((i : ℕ) → i < k + n → f i ≡ g i) → map f (span k n) ≡ map g (span k n)
-  unfolding span
-  same-from f g k zero h = refl
-  same-from f g k (suc n) h = ap₂ _∷_ (h k (omega arith)) (same-from f g (suc k) n (λ i q. h i (omega arith)))
-
   pub filled-same : (f g : ℕ → A) (n : ℕ) (v : List A) → ((i : ℕ) → i < n → f i ≡ g i) → filled f n v ≡ filled g n v
-  unfolding filled below
-  filled-same f g n v h = ap (λ (l : List A). l ++ drop n v) (same-from f g 0 n (λ i q. h i (omega arith)))
+  unfolding filled
+  filled-same f g n v h = ap (λ (l : List A). l ++ drop n v) (table-same f g n h)
 
   const-from : (a : A) (k n : ℕ) → map (λ (i : ℕ). a) (span k n) ≡ replicate n a
   unfolding span
@@ -77,3 +96,10 @@ module _ {A B : Type 0} where
   pub filled-copy : (g : A → B) (s : List A) (d : A) (n : ℕ) (v : List B) → n ≤ length s → filled (λ (i : ℕ). g (getD s i d)) n v ≡ map g (take n s) ++ drop n v
   unfolding filled below
   filled-copy g s d n v h = ap (λ (l : List B). l ++ drop n v) (copy-from g s d 0 n (omega arith))
+
+-- a whole list copied from `at` on
+pub filled-with : {A : Type 0} (s : List A) (d : A) (at n : ℕ) (v : List A) → length s ≡ n → filledFrom (λ (i : ℕ). getD s i d) at n v ≡ over v at s
+filled-with s d at n v e =
+    filled-over (λ (i : ℕ). getD s i d) at v n
+    ∙ ap (λ (k : ℕ). over v at (map (λ (i : ℕ). getD s i d) (below k))) (sym e)
+    ∙ ap (over v at) (map-getD d s)

@@ -3,6 +3,7 @@ pub mod Members
 pub mod Distinct
 pub mod Lists
 pub mod Sets
+pub mod Stores
 pub mod Fill
 pub mod Tests
 pub mod Tables

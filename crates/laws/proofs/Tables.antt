@@ -1,6 +1,6 @@
 -- Lists by their entries: a list that holds f i at each i is f mapped over the numbers below its length.
 use Prim.Native.Nat.{ℕ, zero, suc, _+_, _≤_, _<_}
-use mathlib.Core.Path.{_≡_, refl, sym, ap, _∙_}
+use mathlib.Core.Path.{_≡_, refl, sym, ap, ap₂, _∙_}
 use mathlib.Core.List.{List, [], _∷_, map}
 use native.Mathlib.Omega.{arith}
 use lib.ListN.{length, getD, length-map}
@@ -26,3 +26,12 @@ module _ {A : Type 0} where
   pub table-is : (f : ℕ → A) (n : ℕ) (d : A) (l : List A) → length l ≡ n → ((i : ℕ) → i < n → getD l i d ≡ f i) → l ≡ map f (below n)
   table-is f n d l e h =
       ext-getD d l (map f (below n)) (e ∙ sym (length-table f n)) (λ i q. h i (omega arith) ∙ sym (table-at f n i d (omega arith)))
+
+  same-from : (f g : ℕ → A) (k n : ℕ) → ((i : ℕ) → i < k + n → f i ≡ g i) → map f (span k n) ≡ map g (span k n)
+  unfolding span
+  same-from f g k zero h = refl
+  same-from f g k (suc n) h = ap₂ _∷_ (h k (omega arith)) (same-from f g (suc k) n (λ i q. h i (omega arith)))
+
+  pub table-same : (f g : ℕ → A) (n : ℕ) → ((i : ℕ) → i < n → f i ≡ g i) → map f (below n) ≡ map g (below n)
+  unfolding below
+  table-same f g n h = same-from f g 0 n (λ i q. h i (omega arith))

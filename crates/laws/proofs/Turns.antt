@@ -7,19 +7,14 @@ use native.Mathlib.Nat.{not-suc-le-zero, le-of-suc-le-suc}
 use native.Mathlib.Omega.{arith}
 use lib.ListN.{length, getD, take}
 use lib.Seq.{take-suc}
-use Rattle.laws.specs.Lists.{anyOf, allOf, select, span, below}
-use Rattle.laws.proofs.Members.{either}
+use Rattle.laws.specs.Lists.{anyOf, allOf, select}
+use Rattle.laws.proofs.Tests.{any-append, filter-append}
 
 module _ {A : Type 0} (f : A → Bool) where
   -- ---- any
-  pub any-append : (s t : List A) → anyOf f (s ++ t) ≡ (anyOf f s || anyOf f t)
-  unfolding anyOf
-  any-append [] t = refl
-  any-append (x ∷ s) t = ap (λ (b : Bool). f x || b) (any-append s t) ∙ sym (or-assoc (f x) (anyOf f s) (anyOf f t))
-
   pub any-snoc : (s : List A) (x : A) → anyOf f (s ++ (x ∷ [])) ≡ (anyOf f s || f x)
   unfolding anyOf
-  any-snoc s x = any-append s (x ∷ []) ∙ ap (λ (b : Bool). anyOf f s || b) (or-false (f x))
+  any-snoc s x = any-append f s (x ∷ []) ∙ ap (λ (b : Bool). anyOf f s || b) (or-false (f x))
 
   pub any-more : (s : List A) (j : ℕ) (d : A) → j < length s → f (getD s j d) ≡ false → anyOf f (take j s) ≡ false → anyOf f (take (suc j) s) ≡ false
   any-more s j d h e k = ap (anyOf f) (take-suc s j d h) ∙ any-snoc (take j s) (getD s j d) ∙ ap₂ _||_ k e
@@ -45,48 +40,20 @@ module _ {A : Type 0} (f : A → Bool) where
       on true p q g h = g h
       on false p q g h = h
 
-  pub all-miss : (s : List A) (k : ℕ) (d : A) → k < length s → f (getD s k d) ≡ false → allOf f s ≡ false
-  unfolding allOf
-  all-miss [] k d l e = absurd (not-suc-le-zero l)
-  all-miss (x ∷ s) zero d l e = rw e
-  all-miss (x ∷ s) (suc k) d l e = off (f x) (all-miss s k d (le-of-suc-le-suc l) e)
-    where
-      off : (a : Bool) {b : Bool} → b ≡ false → (a && b) ≡ false
-      off true h = h
-      off false h = refl
-
   -- ---- filter
-  pub filter-append : (s t : List A) → select f (s ++ t) ≡ select f s ++ select f t
-  unfolding select
-  filter-append [] t = refl
-  filter-append (x ∷ s) t =
-      either (f x)
-      (λ e. rw (select, e) (ap (λ (l : List A). x ∷ l) (filter-append s t)))
-      (λ e. rw (select, e) (filter-append s t))
-
   pub filter-hit : (s : List A) (x : A) → f x ≡ true → select f (s ++ (x ∷ [])) ≡ select f s ++ (x ∷ [])
   unfolding select
-  filter-hit s x e = filter-append s (x ∷ []) ∙ rw (select, e)
+  filter-hit s x e = filter-append f s (x ∷ []) ∙ rw (select, e)
 
   pub filter-miss : (s : List A) (x : A) → f x ≡ false → select f (s ++ (x ∷ [])) ≡ select f s
   unfolding select
-  filter-miss s x e = filter-append s (x ∷ []) ∙ rw (select, e) (append-nil (select f s))
+  filter-miss s x e = filter-append f s (x ∷ []) ∙ rw (select, e) (append-nil (select f s))
 
   pub take-hit : (s : List A) (j : ℕ) (d : A) → j < length s → f (getD s j d) ≡ true → select f (take (suc j) s) ≡ select f (take j s) ++ (getD s j d ∷ [])
   take-hit s j d h e = ap (select f) (take-suc s j d h) ∙ filter-hit (take j s) (getD s j d) e
 
   pub take-miss : (s : List A) (j : ℕ) (d : A) → j < length s → f (getD s j d) ≡ false → select f (take (suc j) s) ≡ select f (take j s)
   take-miss s j d h e = ap (select f) (take-suc s j d h) ∙ filter-miss (take j s) (getD s j d) e
-
--- the numbers below n + 1
-span-suc : (k n : ℕ) → span k (suc n) ≡ span k n ++ ((k + n) ∷ [])
-unfolding span
-span-suc k zero = let e : k ≡ k + 0 = omega arith in ap (λ (x : ℕ). x ∷ []) e
-span-suc k (suc n) = let e : suc k + n ≡ k + suc n = omega arith in ap (λ (l : List ℕ). k ∷ l) (span-suc (suc k) n ∙ ap (λ (x : ℕ). span (suc k) n ++ (x ∷ [])) e)
-
-pub below-suc : (n : ℕ) → below (suc n) ≡ below n ++ (n ∷ [])
-unfolding below
-below-suc n = let e : 0 + n ≡ n = omega arith in span-suc 0 n ∙ ap (λ (x : ℕ). span 0 n ++ (x ∷ [])) e
 
 -- ---- tests that agree
 module _ {A : Type 0} (f g : A → Bool) where

@@ -1,30 +1,26 @@
 -- What the search for a route over a baseline comes to, as the three checks give it; and an area of zeros into which a route was laid is zero again when its first
 -- entries are cleared.
 use mathlib.Core.Path.{_≡_, refl, sym, ap, _∙_, subst}
-use mathlib.Core.Bool.{true, false, _&&_, true≢false}
+use mathlib.Core.Bool.{true, false, true≢false}
 use mathlib.Core.Option.{Option, none, some}
 use mathlib.Core.List.{List, [], _∷_, _++_}
-use Prim.Native.Nat.{ℕ, _+_, _-_, _*_, _≤_, _<_}
+use Prim.Native.Nat.{ℕ, _+_, _-_, _*_, _≤_}
 use native.Mathlib.Omega.{arith}
 use lib.Dec.{ltb}
 use borrow.Author.Tests.{lt-ltb}
-use lib.IntN.{pos, natAbs, _-ℤ_}
-use lib.Signed.{leZ, ltZ}
 use lib.ListN.{length, take, drop, replicate, length-append, length-replicate, replicate-append-replicate, take-append-drop}
 use lib.Seq.{take-at, take-take, drop-append-seam}
 use Rattle.laws.specs.Lists.{isSome}
-use Rattle.laws.proofs.Members.{both}
 use Rattle.model.specs.Answers.{Said, refusal, ask, first}
 use Rattle.model.specs.declared.Rect.{Rect}
 use Rattle.model.specs.declared.Position.{Position}
-use Rattle.rects.specs.Rects.{has}
 use Rattle.rects.specs.Windows.{width, height, centres, windowFits, inWindow, centreAt}
 use Rattle.rects.proofs.Windows.{framed}
 use Rattle.routes.specs.Edges.{Step, windowEdges}
 use Rattle.routes.specs.Routes.{route}
 use Rattle.routes.proofs.RouteTheorem.{route-is-road}
 use Rattle.routes.proofs.WindowLaws.{window-within}
-use Rattle.route.specs.Ground.{openIn, Window, InWindow}
+use Rattle.route.specs.Ground.{openIn, Window}
 use Rattle.route.specs.Results.{LentAll, Routed, pointsOf, laidInto}
 use Rattle.route.proofs.Clears.{clear-room}
 use Rattle.layouts.proofs.Laid.{centreAt-below}
@@ -80,21 +76,6 @@ laid-cleared c path z (some r) h =
     ap (λ (l : List ℕ). replicate (length r) 0 ++ l) (drop-append-seam r (drop (length r) path))
     ∙ ap (λ (l : List ℕ). l ++ drop (length r) path) (sym first)
     ∙ take-append-drop (length r) path
-
--- ---- a position of the window
-pub in-window : (w : Rect) (p : Position) → inWindow w p ≡ true → (leZ (w .left) (pos (p .x)) ≡ true) × (leZ (w .top) (pos (p .y)) ≡ true)
-unfolding inWindow has
-in-window w p e =
-    let a = both (leZ (w .left) (pos (p .x)) && ltZ (pos (p .x)) (w .right) && leZ (w .top) (pos (p .y))) (ltZ (pos (p .y)) (w .bottom)) e in
-    let b = both (leZ (w .left) (pos (p .x)) && ltZ (pos (p .x)) (w .right)) (leZ (w .top) (pos (p .y))) (a .0) in
-    (both (leZ (w .left) (pos (p .x))) (ltZ (pos (p .x)) (w .right)) (b .0) .0, b .1)
-
-pub local-ready : (w : Rect) (p : Position) (n : ℕ) → windowFits 8192 8192 w ≡ true → inWindow w p ≡ true → n ≡ width w → InWindow (p .x) (p .y) (w .left) (w .top) n
-unfolding centreAt
-local-ready w p n h i e =
-    let few = framed 8192 8192 w h .few in
-    let k : natAbs (pos (p .y) -ℤ w .top) * width w + natAbs (pos (p .x) -ℤ w .left) < centres w = unfold centreAt in centreAt-below w p i in
-    record { column = in-window w p i .0; row = in-window w p i .1; fits = rw e (omega arith) }
 
 -- ---- the call of the search for a route, on areas that are ready
 module _ (steps : List Step) {w : Rect} {start end : Position} {base queue previous path : List ℕ} (r : Ready w start end base queue previous path)

@@ -1,23 +1,13 @@
 // Whether a mover passes from end to end over its baseline alone.
+use explore::centre_at;
 use model::Answer;
 use model::Position;
 use model::Rect;
 use model::Refusal;
 ghost use mathlib.Core.Path.{_≡_};
-ghost use mathlib.Core.Bool.{true};
 ghost use Rattle.model.specs.Answers.{replyOf};
-ghost use Rattle.rects.specs.Windows.{windowFits, inWindow, centreAt};
 ghost use Rattle.routes.specs.Edges.{stepsOf};
 ghost use Rattle.passage.specs.Passages.{passageOver, Ready};
-
-// The centre at a position of the window.
-fn centre_at(window: Rect, at: Position) -> usize
-    requires { ⌜ (windowFits 8192 8192 window ≡ true) × (inWindow window at ≡ true) ⌝ }
-    ensures { λ r. ⌜ r ≡ centreAt window at ⌝ }
-{
-    let width = rects::width(window);
-    route::local_index(at.x, at.y, window.left, window.top, width)
-}
 
 // Refuses a blocked start, a blocked end, and ground without a route. The working areas are zero before and after.
 pub fn check_passage(

@@ -8,6 +8,7 @@ use mathlib.Core.Option.{Option, none, some, Option·some-injective}
 use mathlib.Core.List.{List, [], _∷_, _++_, map, List·Memᴰ, Memᴰ·map, Memᴰ·of-map, Memᴰ·cast}
 use lib.ListN.{length, getD, drop}
 use Rattle.laws.specs.Lists.{flat}
+use Rattle.laws.specs.Fill.{zeros}
 use Rattle.laws.proofs.Members.{getD-member}
 use Rattle.model.specs.declared.Limits.{Limits}
 use Rattle.rects.specs.Windows.{positionOf}
@@ -24,7 +25,6 @@ use Rattle.search.proofs.Found.{sets, members-of}
 use Rattle.search.proofs.Formed.{Good}
 use Rattle.calls.specs.Areas.{Store, laid, numberOf, reasonOf, row, rowOf, numbers, pointsOf, pointsLength, recordOf, storeOf}
 use Rattle.calls.specs.Calls.{planOf, ReadOut}
-use Rattle.calls.proofs.Blocks.{zeros}
 use Rattle.calls.proofs.Back.{laid-front, row-back, points-back, noLayout, routeNumbers, reason-back}
 use Rattle.calls.proofs.Accepted.{good-room}
 use Rattle.calls.proofs.StepLaws.{Fair}

@@ -22,8 +22,9 @@ use Rattle.calls.specs.Checks.{groupChecks, limitChecks, placeChecks}
 use Rattle.calls.specs.RecordCheck.{recordFits}
 use Rattle.calls.specs.Calls.{readChecks}
 use Rattle.calls.proofs.Sound.{long}
+use Rattle.calls.proofs.StepLaws.{first-both}
 use Rattle.checks.specs.Parts.{frameChecks, areaChecks}
-use Rattle.checks.proofs.Asked.{first-then, first-stops, first-both, query-parts}
+use Rattle.checks.proofs.Asked.{first-then, first-stops, query-parts}
 use Rattle.checks.proofs.Passed.{limits-found, frames-found, areas-found}
 use Rattle.checks.proofs.Placed.{places-whole}
 use Rattle.record.specs.Given.{Rows, Found}

@@ -29,7 +29,7 @@ fn wide(n: u32) -> usize
 }
 
 // The number of a refusal.
-fn refusal_number(refusal: Refusal) -> u32
+pub fn refusal_number(refusal: Refusal) -> u32
     ensures { λ r. ⌜ r ≡ saidOf refusal .number ⌝ }
 {
     match refusal {
@@ -54,7 +54,7 @@ fn refusal_number(refusal: Refusal) -> u32
 }
 
 // The index given with a refusal, 0 where none is.
-fn refusal_index(refusal: Refusal) -> u32
+pub fn refusal_index(refusal: Refusal) -> u32
     ensures { λ r. ⌜ r ≡ getD (saidOf refusal .values) 0 0 ⌝ }
 {
     if let Refusal::PlacementInvalid(i) = refusal {
@@ -64,7 +64,7 @@ fn refusal_index(refusal: Refusal) -> u32
 }
 
 // The number of an answer, 0 where the call is accepted.
-fn number_of(answer: Answer) -> u32
+pub fn number_of(answer: Answer) -> u32
     ensures { λ r. ⌜ r ≡ numberIn (replyOf answer) ⌝ }
 {
     match answer {
@@ -74,7 +74,7 @@ fn number_of(answer: Answer) -> u32
 }
 
 // The index given with an answer, 0 where none is.
-fn index_of(answer: Answer) -> u32
+pub fn index_of(answer: Answer) -> u32
     ensures { λ r. ⌜ r ≡ indexIn (replyOf answer) ⌝ }
 {
     match answer {
@@ -83,7 +83,7 @@ fn index_of(answer: Answer) -> u32
     }
 }
 
-fn accepted(answer: Answer) -> bool
+pub fn accepted(answer: Answer) -> bool
     ensures { λ r. ⌜ r ≡ not (isSome (replyOf answer)) ⌝ }
 {
     match answer {
@@ -166,7 +166,7 @@ fn check_recorded(
 }
 
 // All checks of a reading.
-fn read_checks(
+pub fn read_checks(
     query: Query,
     limits: Limits,
     groups: &[u32],

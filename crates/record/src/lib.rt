@@ -1,21 +1,21 @@
 // Check 16, and the clearing of unused entries.
+use extend::footprint_at;
+use extend::group_at;
 use model::Allow;
 use model::Limits;
 use model::NUMBERS;
 use model::Query;
-use model::RECTS;
 use model::Record;
-use model::Rect;
 ghost use mathlib.Core.Path.{_≡_};
 ghost use mathlib.Core.Bool.{true, not, _&&_, _||_};
 ghost use mathlib.Core.List.{List};
 ghost use Prim.Native.Nat.{ℕ, _+_, _*_, _/_, _≤_, _<_};
 ghost use lib.Dec.{ltb};
-ghost use lib.ListN.{length, getD, take, drop};
+ghost use lib.ListN.{length, take, drop};
 ghost use Rattle.laws.specs.Lists.{allOf, below};
 ghost use Rattle.rects.specs.Windows.{centres, windowFits};
 ghost use Rattle.layouts.specs.Boards as boards;
-ghost use Rattle.layouts.specs.Flat.{rectAt, placesIn, inputsOf};
+ghost use Rattle.layouts.specs.Flat.{placesIn, inputsOf};
 ghost use Rattle.calls.specs.RecordCheck.{rowFits, recordFits};
 ghost use Rattle.record.specs.Given.{Rows, Found};
 ghost use Rattle.record.specs.Lent.{numbersFit, capOf, routesPass, ofGroup, apart, entryFits, headFits, stood, listPasses, Members, Beside, Entries, Lists};
@@ -127,22 +127,6 @@ fn routes_fit(routes: [u32; 32], count: usize, cap: usize) -> bool
         i += 1;
     }
     sum <= 1000000
-}
-
-// The group of placement i.
-fn group_at(numbers: &[u32], i: usize) -> usize
-    requires { ⌜ 4 * i + 4 ≤ length (now numbers) ⌝ }
-    ensures { λ r. ⌜ r ≡ getD (now (numbers .entry)) (4 * i + 1) 0 ⌝ }
-{
-    index(numbers[NUMBERS * i + 1])
-}
-
-// The footprint of placement i: the first of its two rectangles.
-fn footprint_at(edges: &[i32], i: usize) -> Rect
-    requires { ⌜ 8 * i + 8 ≤ length (now edges) ⌝ }
-    ensures { λ r. ⌜ r ≡ rectAt (now (edges .entry)) (8 * i) ⌝ }
-{
-    rects::rect_at(edges, i * RECTS)
 }
 
 // How many of the first k members are of the group.

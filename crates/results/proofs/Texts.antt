@@ -1,7 +1,7 @@
 -- The texts of a result, part by part.
 use Prim.Native.Nat.{ℕ, zero, suc, _+_, _-_, _*_, _<_}
 use mathlib.Core.Path.{_≡_, refl, sym, ap, _∙_}
-use mathlib.Core.List.{List, [], _∷_, _++_, append-assoc, append-nil, map}
+use mathlib.Core.List.{List, [], _∷_, _++_, append-assoc, append-nil, map, map-map}
 use native.Mathlib.Omega.{arith}
 use lib.ListN.{length, take, drop, getD}
 use Rattle.laws.specs.Lists.{below, span, flat, total}
@@ -11,7 +11,6 @@ use Rattle.model.specs.Answers.{Said, refusal}
 use Rattle.model.specs.declared.Position.{Position}
 use Rattle.model.specs.declared.Record.{Record}
 use Rattle.calls.specs.Areas.{Store, reasonOf, rowOf, pointsOf, positions}
-use Rattle.calls.proofs.Blocks.{map-map}
 use Rattle.calls.proofs.Whole.{length-positions}
 use Rattle.text.specs.Forms.{decimal}
 use Rattle.text.specs.Patterns.{bytes, is}

@@ -1,6 +1,6 @@
 -- One step of a centre's turn, by the ways in which the code leaves it.
 use mathlib.Core.Path.{_≡_, _∙_}
-use mathlib.Core.Bool.{Bool, true, false, _&&_}
+use mathlib.Core.Bool.{Bool, true, false, _&&_, and-false}
 use mathlib.Core.List.{List, [], _∷_}
 use Prim.Native.Nat.{ℕ, _+_, _-_, _*_, _<_}
 use native.Mathlib.Omega.{arith}
@@ -12,7 +12,7 @@ use Rattle.laws.specs.Lists.{allOf}
 use Rattle.routes.specs.Edges.{stepBy, inside, sidesFrom}
 use Rattle.route.specs.Areas.{Area, tried}
 use Rattle.route.specs.Ground.{openIn, leads, Moved}
-use Rattle.route.proofs.Steps.{only, and-false, open-is, open-not, leads-in, leads-out}
+use Rattle.route.proofs.Steps.{only, open-is, open-not, leads-in, leads-out}
 use Rattle.route.proofs.Marks.{tried-none, tried-old, tried-new}
 
 pub moved-below : {at : ℕ} {by : ℤ} {limit r : ℕ} → Moved at by limit r → (r ≡ 0 → ⊥) → r - 1 < limit

@@ -1,6 +1,6 @@
 -- From the parts of a call to the route: wiped areas are as before, and what the walks give is the definition's route.
 use mathlib.Core.Path.{_≡_, refl, sym, ap, _∙_}
-use mathlib.Core.Bool.{Bool, true, false, _&&_, true≢false}
+use mathlib.Core.Bool.{Bool, true, false, _&&_, true≢false, and-false}
 use mathlib.Core.Logic.{_⊎_, inl, inr, ⊎-elim}
 use mathlib.Core.Option.{Option, none, some}
 use mathlib.Core.List.{List, [], _∷_, _++_, reverse, List·Memᴰ, List·Memᴰ·head, List·Memᴰ·tail, List·Memᴰ·cases-cons, List·Memᴰ·not-nil}
@@ -19,7 +19,7 @@ use Rattle.routes.specs.Routes.{Route, Searched, searchFrom, nodesOf}
 use Rattle.route.specs.Areas.{erased}
 use Rattle.route.specs.Ground.{openIn}
 use Rattle.route.specs.Results.{Lent, Left, Leads, Found, Counted, Laid, pointsOf, laidInto, Routed, Restored}
-use Rattle.route.proofs.Steps.{and-false, open-is, open-not}
+use Rattle.route.proofs.Steps.{open-is, open-not}
 use Rattle.route.proofs.Clears.{clear-room, clear-at, clear-zeros}
 
 -- ---- wiped areas

@@ -9,10 +9,10 @@ use native.Mathlib.Numerals.{add-one}
 use native.Mathlib.Omega.{arith}
 use lib.ListN.{length, getD, set, take, drop, length-append, length-set, List·getD-map}
 use lib.Seq.{getD-set-same, getD-set-other, take-suc-set, getD-take, drop-set-lt, drop-drop}
+use Rattle.laws.proofs.Members.{either}
 use Rattle.routes.specs.Routes.{Route, anyRoute, onward, known, discover}
 use Rattle.route.specs.Areas.{Area, Room, entered, tried, Traced, Traced·from}
 use Rattle.route.specs.Results.{Lent}
-use Rattle.route.proofs.Steps.{either}
 use Rattle.route.proofs.Clears.{clear-at}
 use Rattle.route.proofs.Marks.{added, entered-old, entered-new, tail-below, room-added}
 use Rattle.route.proofs.Turns.{On, known-on, known-not, on-more, extend-old, extend-new}

@@ -1,6 +1,6 @@
 -- Where the steps of a table lead: the definition's edges, by the cases that the code tells apart.
 use mathlib.Core.Path.{_≡_, refl, sym, ap, _∙_, subst}
-use mathlib.Core.Bool.{Bool, true, false, _&&_, _||_, true≢false}
+use mathlib.Core.Bool.{Bool, true, false, _&&_, _||_, true≢false, and-true, and-false, or-true}
 use mathlib.Core.List.{List, [], _∷_, _++_, map, map-append, List·Memᴰ, List·Memᴰ·not-nil, List·Memᴰ·append-cases, List·Memᴰ·eq-of-singleton}
 use mathlib.Core.Logic.{⊎-elim}
 use Prim.Native.Nat.{ℕ, zero, suc, _+_, _*_, _/_, _%_, _≤_, _<_}
@@ -14,30 +14,11 @@ use lib.ListN.{getD}
 use mir.Syntax.{w32}
 use mir.Val.{SFits, ofZ}
 use Rattle.laws.specs.Lists.{allOf, select}
+use Rattle.laws.proofs.Tests.{filter-append}
+use Rattle.laws.proofs.Members.{either, both}
 use Rattle.routes.specs.Edges.{Edge, Step, stepBy, eqZ, centre, inside, sidesFrom, edgeBy, edgesFrom, windowEdges}
 use Rattle.routes.specs.Routes.{neighbours}
 use Rattle.route.specs.Ground.{openIn, leads}
-
--- either way a test goes
-pub either {ℓ} : {G : Type ℓ} (b : Bool) → (b ≡ true → G) → (b ≡ false → G) → G
-either true f g = f refl
-either false f g = g refl
-
-pub and-true : (b : Bool) → b && true ≡ b
-and-true true = refl
-and-true false = refl
-
-pub and-both : (a b : Bool) → a && b ≡ true → (a ≡ true) × (b ≡ true)
-and-both true b e = (refl, e)
-and-both false b e = absurd (true≢false (sym e))
-
-pub and-false : (b : Bool) → b && false ≡ false
-and-false true = refl
-and-false false = refl
-
-or-true : (b : Bool) → b || true ≡ true
-or-true true = refl
-or-true false = refl
 
 -- ---- open centres
 pub open-is : (cells : List ℕ) (c : ℕ) → getD cells c 0 ≡ 0 → openIn cells c ≡ true
@@ -104,15 +85,6 @@ module _ {A : Type 0} where
   filter-no : (f : A → Bool) (a : A) (l : List A) → f a ≡ false → select f (a ∷ l) ≡ select f l
   unfolding select
   filter-no f a l e = rw (select, e)
-
-  filter-append : (f : A → Bool) (l m : List A) → select f (l ++ m) ≡ select f l ++ select f m
-  unfolding select
-  filter-append f [] m = refl
-  filter-append f (a ∷ l) m =
-      let rest = filter-append f l m in
-      either (f a)
-      (λ e. filter-yes f a (l ++ m) e ∙ ap (λ (k : List A). a ∷ k) rest ∙ sym (ap (λ (k : List A). k ++ select f m) (filter-yes f a l e)))
-      (λ e. filter-no f a (l ++ m) e ∙ rest ∙ sym (ap (λ (k : List A). k ++ select f m) (filter-no f a l e)))
 
   filter-only : (t : A → ℕ) (f : A → Bool) (a : A) → map t (select f (a ∷ [])) ≡ only (f a) (t a)
   unfolding only select
@@ -190,9 +162,9 @@ leads-cons cells width height x y s steps =
 inside-below : (width height : ℕ) (x y : ℤ) → inside width height x y ≡ true → centre width height x y < width * height
 unfolding inside centre
 inside-below width height (pos x) (pos y) e =
-    let i = and-both (leb 0 x && ltb x width && leb 0 y) (ltb y height) e in
-    let j = and-both (leb 0 x && ltb x width) (leb 0 y) (i .0) in
-    let k = and-both (leb 0 x) (ltb x width) (j .0) in
+    let i = both (leb 0 x && ltb x width && leb 0 y) (ltb y height) e in
+    let j = both (leb 0 x && ltb x width) (leb 0 y) (i .0) in
+    let k = both (leb 0 x) (ltb x width) (j .0) in
     centre-below (ltb-true x width (k .1)) (ltb-true y height (i .1))
 inside-below width height (pos x) (negsuc y) e = absurd (true≢false (sym e ∙ rw and-false))
 inside-below width height (negsuc x) y e = absurd (true≢false (sym e))

@@ -10,8 +10,8 @@ use lib.Dec.{eqb}
 use borrow.Author.Tests.{eqb-true, eqb-false, lt-ltb, le-ltb}
 use lib.ListN.{length, getD}
 use Rattle.laws.specs.Lists.{anyOf}
+use Rattle.laws.proofs.Members.{either}
 use Rattle.routes.specs.Routes.{Route, anyRoute, onward, known, discover, sweep}
-use Rattle.route.proofs.Steps.{either}
 
 -- one of the routes ends at v
 abbrev pub On : ℕ → List Route → Type 0

@@ -11,15 +11,12 @@ use Rattle.model.specs.declared.Rect.{Rect}
 use Rattle.model.specs.declared.Position.{Position}
 use Rattle.laws.specs.Ints.{up, dn}
 use Rattle.laws.proofs.Ints.{add-parts, natAbs-parts}
+use Rattle.laws.specs.Fill.{FillingFrom}
+use Rattle.laws.proofs.Fill.{filling-from-more}
 use Rattle.rects.specs.Windows.{width, centres, windowFits, pixelX, pixelY, positionOf}
 use Rattle.rects.proofs.Windows.{Framed, framed, width-some, column-lt, row-lt}
 use Rattle.calls.specs.Areas.{numbers}
-use Rattle.rows.proofs.Stores.{Copied, copied-next}
-
-pub length-numbers : (ps : List Position) → length (numbers ps) ≡ 2 * length ps
-unfolding numbers
-length-numbers [] = refl
-length-numbers (p ∷ ps) = omega (arith, length-numbers ps)
+use Rattle.calls.proofs.Back.{length-numbers}
 
 numbers-at : (ps : List Position) (i : ℕ) (d : Position) → i < length ps
     → (getD (numbers ps) (2 * i) 0 ≡ getD ps i d .x) × (getD (numbers ps) (2 * i + 1) 0 ≡ getD ps i d .y)
@@ -40,23 +37,22 @@ module _ (w : Rect) (path : List ℕ) (n : ℕ) (long : n ≤ length path) where
   length-points =
       omega (arith, length-numbers (map (positionOf w) (take n path)), length-map (take n path) (positionOf w), length-take-le n path long)
 
-  pub points-next : (l : List ℕ) (at i : ℕ) (a : List ℕ) (p : Position) → p ≡ positionOf w (getD path i 0) → at + 2 * n ≤ length l → i < n
-      → Copied l at points (2 * i) a → Copied l at points (2 * (i + 1)) (set (set a (at + 2 * i) (p .x)) (at + 2 * i + 1) (p .y))
-  points-next l at i a p e room h c =
-      let m = length-points in
+  -- v has the first i numbers of the points
+  abbrev pub Laid : ℕ → List ℕ → List ℕ → ℕ → Type 0
+  Laid at v₀ v i = FillingFrom (λ (j : ℕ). getD points j 0) at (2 * n) v₀ v i
+
+  pub points-next : (at : ℕ) (v₀ v : List ℕ) (i : ℕ) (p : Position) → p ≡ positionOf w (getD path i 0) → at + 2 * n ≤ length v₀ → i < n
+      → Laid at v₀ v (2 * i) → Laid at v₀ (set (set v (at + 2 * i) (p .x)) (at + 2 * i + 1) (p .y)) (2 * (i + 1))
+  points-next at v₀ v i p e room h t =
       let ps : List Position = map (positionOf w) (take n path) in
       let k : length ps ≡ n = length-map (take n path) (positionOf w) ∙ length-take-le n path long in
-      let q : getD ps i (positionOf w 0) ≡ p =
-      List·getD-map (positionOf w) (take n path) i 0 ∙ ap (positionOf w) (getD-take n path i 0 h) ∙ sym e in
+      let q : p ≡ getD ps i (positionOf w 0) = e ∙ sym (List·getD-map (positionOf w) (take n path) i 0 ∙ ap (positionOf w) (getD-take n path i 0 h)) in
       let r = numbers-at ps i (positionOf w 0) (omega arith) in
-      let one : Copied l at points (2 * i + 1) (set a (at + 2 * i) (p .x)) =
-      subst (λ (v : ℕ). Copied l at points (2 * i + 1) (set a (at + 2 * i) v)) (r .0 ∙ ap (λ (z : Position). z .x) q)
-      (copied-next l at points (2 * i) a c (omega arith) (omega arith)) in
-      let two : Copied l at points (2 * i + 1 + 1) (set (set a (at + 2 * i) (p .x)) (at + (2 * i + 1)) (p .y)) =
-      subst (λ (v : ℕ). Copied l at points (2 * i + 1 + 1) (set (set a (at + 2 * i) (p .x)) (at + (2 * i + 1)) v)) (r .1 ∙ ap (λ (z : Position). z .y) q)
-      (copied-next l at points (2 * i + 1) (set a (at + 2 * i) (p .x)) one (omega arith) (omega arith)) in
-      subst (λ (j : ℕ). Copied l at points (2 * (i + 1)) (set (set a (at + 2 * i) (p .x)) j (p .y))) (let g : at + (2 * i + 1) ≡ at + 2 * i + 1 = omega arith in g)
-      (subst (λ (j : ℕ). Copied l at points j (set (set a (at + 2 * i) (p .x)) (at + (2 * i + 1)) (p .y))) (let g : 2 * i + 1 + 1 ≡ 2 * (i + 1) = omega arith in g) two)
+      let f : ℕ → ℕ = λ (j : ℕ). getD points j 0 in
+      let one = filling-from-more f at (2 * n) v₀ room v (2 * i) (p .x) (omega arith) (ap (λ (z : Position). z .x) q ∙ sym (r .0)) t in
+      let two = filling-from-more f at (2 * n) v₀ room (set v (at + 2 * i) (p .x)) (2 * i + 1) (p .y) (omega arith) (ap (λ (z : Position). z .y) q ∙ sym (r .1)) one in
+      subst (λ (j : ℕ). Laid at v₀ (set (set v (at + 2 * i) (p .x)) j (p .y)) (2 * (i + 1))) (let g : at + (2 * i + 1) ≡ at + 2 * i + 1 = omega arith in g)
+      (subst (λ (j : ℕ). Laid at v₀ (set (set v (at + 2 * i) (p .x)) (at + (2 * i + 1)) (p .y)) j) (let g : 2 * i + 1 + 1 ≡ 2 * (i + 1) = omega arith in g) two)
 
 -- ---- the pixel of a centre
 plus-parts : (z : ℤ) (m : ℕ) → z ≡ pos (up z) → natAbs (z +ℤ pos m) ≡ up z + m

@@ -10,11 +10,12 @@ use lib.ListN.{length, take, drop, getD, set, length-append, length-drop, length
 use lib.Seq.{take-append-seam, drop-append-seam, ext-getD, getD-take, getD-drop, take-append-le, length-take-le, take-at, drop-cons, take-suc, append-snoc, take-suc-set, drop-set-lt, drop-drop, drop-append-le, set-split}
 use borrow.Author.Tests.{lt-ltb, le-ltb}
 use Rattle.laws.specs.Lists.{anyOf, same, putIn, padded}
+use Rattle.laws.specs.Fill.{zeros}
 use Rattle.laws.proofs.Members.{either, getD-member}
 use Rattle.laws.proofs.Sets.{same-true, same-refl, length-insert}
+use Rattle.laws.proofs.Stores.{length-zeros}
 use Rattle.calls.specs.Areas.{row}
-use Rattle.rows.specs.Lay.{zeros, Seek}
-use Rattle.rows.proofs.Stores.{length-zeros}
+use Rattle.rows.specs.Lay.{Seek}
 use Rattle.rows.proofs.Blocks.{block-at}
 
 pub same-eq : (a b : List ℕ) → a ≡ b → same a b ≡ true

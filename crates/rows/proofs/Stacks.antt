@@ -8,12 +8,13 @@ use native.Mathlib.Nat.{suc-mul, mul-le-mul-right}
 use lib.ListN.{length, take, drop, getD, length-append, length-map, length-reverse, List·getD-append, List·getD-map}
 use lib.Seq.{take-suc, take-all, length-take-le}
 use Rattle.laws.specs.Lists.{flat, padded, putIn}
+use Rattle.laws.specs.Fill.{zeros}
 use Rattle.laws.proofs.Members.{getD-member}
+use Rattle.laws.proofs.Stores.{length-zeros, length-padded}
 use Rattle.search.specs.State.{Extensions, lastTaken, setOn}
 use Rattle.search.proofs.Formed.{length-setOn}
 use Rattle.calls.specs.Areas.{row}
-use Rattle.rows.specs.Lay.{zeros, Used, Stood, SomeStood}
-use Rattle.rows.proofs.Stores.{length-zeros, length-padded}
+use Rattle.rows.specs.Lay.{Used, Stood, SomeStood}
 use Rattle.rows.proofs.Blocks.{length-flat, entry-at}
 use Rattle.rows.proofs.Sets.{row-head}
 

@@ -1,27 +1,15 @@
 -- What a store does to an area whose used entries are followed by zeros: `padded-put` writes at the end of what is used, `padded-trail` takes zeros at the
--- end of the used entries for unused ones. A loop that stores a row entry by entry stores it whole.
-use Prim.Native.Nat.{ℕ, zero, suc, _+_, _-_, _≤_, _<_}
-use mathlib.Core.Path.{_≡_, refl, sym, _∙_, ap, subst}
+-- end of the used entries for unused ones.
+use Prim.Native.Nat.{ℕ, suc, _+_, _-_, _≤_, _<_}
+use mathlib.Core.Path.{_≡_, sym, _∙_, ap}
 use mathlib.Core.List.{List, [], _∷_, _++_, append-assoc, append-nil}
 use native.Mathlib.Omega.{arith}
 use native.Mathlib.Numerals.{add-one}
-use lib.ListN.{length, take, drop, getD, set, length-append, length-replicate, getD-replicate, replicate-append-replicate, length-set}
-use lib.Seq.{take-append-seam, drop-append-add, drop-append-le, drop-at, take-at, getD-at, append-snoc, set-split, take-length, take-suc, paste, paste-zero, paste-suc, length-paste, drop-drop}
-use Rattle.laws.specs.Lists.{padded, total}
-use Rattle.laws.proofs.Lists.{sum-append}
-use Rattle.rows.specs.Lay.{zeros, over}
-
-pub length-zeros : (n : ℕ) → length (zeros n) ≡ n
-length-zeros n = length-replicate {A = ℕ} n 0
-
-pub drop-zeros : (d a : ℕ) → drop d (zeros a) ≡ zeros (a - d)
-drop-zeros zero a = ap zeros (let z : a ≡ a - 0 = omega arith in z)
-drop-zeros (suc d) zero = ap zeros (let z : 0 ≡ 0 - suc d = omega arith in z)
-drop-zeros (suc d) (suc a) = drop-zeros d a ∙ ap zeros (let z : a - d ≡ suc a - suc d = omega arith in z)
-
-pub length-padded : (n : ℕ) (xs : List ℕ) → length xs ≤ n → length (padded n xs) ≡ n
-unfolding padded
-length-padded n xs h = omega (arith, length-append xs (zeros (n - length xs)), length-zeros (n - length xs))
+use lib.ListN.{length, take, drop, getD, set, length-append, replicate-append-replicate}
+use lib.Seq.{take-append-seam, drop-append-add, drop-append-le, drop-at, take-at, getD-at, append-snoc, set-split}
+use Rattle.laws.specs.Lists.{padded}
+use Rattle.laws.specs.Fill.{zeros, over}
+use Rattle.laws.proofs.Stores.{length-zeros, drop-zeros, length-padded}
 
 pub padded-none : (n : ℕ) → padded n [] ≡ zeros n
 unfolding padded
@@ -109,54 +97,3 @@ padded-set n xs ys k v e h l =
 pub padded-last : (n : ℕ) (xs : List ℕ) (x k : ℕ) → k ≡ length xs → getD (padded n (xs ++ (x ∷ []))) k 0 ≡ x
 unfolding padded
 padded-last n xs x k e = ap (λ (q : List ℕ). getD q k 0) (append-assoc xs (x ∷ []) (zeros (n - length (xs ++ (x ∷ []))))) ∙ getD-at xs x (zeros (n - length (xs ++ (x ∷ [])))) 0 k (sym e)
-
--- ---- a row stored entry by entry
-over-paste : (l : List ℕ) (at : ℕ) (ys : List ℕ) → paste l at ys (length ys) ≡ over l at ys
-unfolding over
-over-paste l at ys = ap (λ (q : List ℕ). (take at l ++ q) ++ drop (at + length ys) l) (take-length ys)
-
-pub length-over : (l : List ℕ) (at : ℕ) (ys : List ℕ) → at + length ys ≤ length l → length (over l at ys) ≡ length l
-length-over l at ys h = ap length (sym (over-paste l at ys)) ∙ length-paste l at ys (length ys) h (omega arith)
-
--- what a part that was lent leaves
-pub over-part : (l : List ℕ) (at k : ℕ) (ys : List ℕ) → length ys ≡ k → take at l ++ (ys ++ drop k (drop at l)) ≡ over l at ys
-unfolding over
-over-part l at k ys e =
-    ap (λ (q : List ℕ). take at l ++ (ys ++ q)) (drop-drop k at l ∙ ap (λ (j : ℕ). drop (at + j) l) (sym e))
-    ∙ sym (append-assoc (take at l) ys (drop (at + length ys) l))
-
--- l has become a: the first i entries of src are stored
-pub record Copied (l : List ℕ) (at : ℕ) (src : List ℕ) (i : ℕ) (a : List ℕ) : Type 0 where
-  pub upto : i ≤ length src
-  pub so : a ≡ paste l at src i
-  pub kept : length a ≡ length l
-
-pub copied-begin : (l : List ℕ) (at : ℕ) (src : List ℕ) → Copied l at src 0 l
-copied-begin l at src = record { upto = omega arith; so = paste-zero l at src; kept = refl }
-
-pub copied-next : (l : List ℕ) (at : ℕ) (src : List ℕ) (i : ℕ) (a : List ℕ) → Copied l at src i a → at + i < length l → i < length src
-    → Copied l at src (i + 1) (set a (at + i) (getD src i 0))
-copied-next l at src i a c h k =
-    record {
-      upto = omega arith;
-      so = ap (λ (q : List ℕ). set q (at + i) (getD src i 0)) (c .so) ∙ paste-suc l at src i 0 h k ∙ ap (λ (j : ℕ). paste l at src j) (sym (add-one i));
-      kept = length-set a (at + i) (getD src i 0) ∙ c .kept;
-    }
-
-pub copied-end : (l : List ℕ) (at : ℕ) (src : List ℕ) (i : ℕ) (a : List ℕ) → Copied l at src i a → length src ≤ i → a ≡ over l at src
-copied-end l at src i a c h =
-    let e : i ≡ length src = omega (arith, c .upto) in
-    c .so ∙ ap (λ (j : ℕ). paste l at src j) e ∙ over-paste l at src
-
--- n zeros stored one by one
-pub copied-zero : (l : List ℕ) (at n i : ℕ) (a : List ℕ) → Copied l at (zeros n) i a → at + n ≤ length l → i < n → Copied l at (zeros n) (i + 1) (set a (at + i) 0)
-copied-zero l at n i a c h k =
-    subst (λ (x : ℕ). Copied l at (zeros n) (i + 1) (set a (at + i) x)) (getD-replicate {A = ℕ} n i 0 0 k)
-    (copied-next l at (zeros n) i a c (omega arith) (rw (length-zeros n) k))
-
--- ---- sums
-pub total-more : (l : List ℕ) (i : ℕ) → i < length l → total (take (i + 1) l) ≡ total (take i l) + getD l i 0
-unfolding total
-total-more l i h =
-    rw (add-one i, take-suc l i 0 h)
-    (omega (arith, sum-append (take i l) (getD l i 0 ∷ [])))

@@ -1,18 +1,11 @@
 -- How sets, lists and routes lie in an area one after the other, and what is asked of such an area.
-use Prim.Native.Nat.{ℕ, _+_, _≤_, _<_}
+use Prim.Native.Nat.{ℕ, _≤_, _<_}
 use mathlib.Core.Path.{_≡_}
 use mathlib.Core.List.{List, _++_, map, List·Memᴰ}
-use lib.ListN.{length, take, drop, replicate}
+use lib.ListN.{length}
 use Rattle.laws.specs.Lists.{flat, padded}
 use Rattle.search.specs.State.{Extensions}
 use Rattle.calls.specs.Areas.{row}
-
-abbrev pub zeros : ℕ → List ℕ
-zeros n = replicate n 0
-
--- an area with ys stored from `at` on
-unfoldable pub over : List ℕ → ℕ → List ℕ → List ℕ
-over l at ys = (take at l ++ ys) ++ drop (at + length ys) l
 
 -- the set s, whose row is w, is looked for among the first n rows of an area
 pub record Seek (area : List ℕ) (n : ℕ) (w s : List ℕ) (vs : List (List ℕ)) (rest : List ℕ) : Type 0 where

@@ -10,10 +10,11 @@ ghost use lib.IntN.{pos};
 ghost use lib.ListN.{length, take, drop, getD};
 ghost use Rattle.laws.specs.Ints.{up};
 ghost use Rattle.laws.specs.Lists.{anyOf, same, putIn, total};
+ghost use Rattle.laws.specs.Fill.{over};
 ghost use Rattle.rects.specs.Windows.{centres, windowFits, positionOf};
 ghost use Rattle.search.specs.State.{Extensions, setOn};
 ghost use Rattle.calls.specs.Areas.{row, numbers};
-ghost use Rattle.rows.specs.Lay.{zeros, over, Seek, Stood, SomeStood};
+ghost use Rattle.rows.specs.Lay.{Seek, Stood, SomeStood};
 
 fn index(n: u32) -> usize
     ensures { λ r. ⌜ (r ≡ n) × (r < 4294967296) ⌝ }
@@ -121,18 +122,6 @@ pub fn put_row(area: &mut [u16], k: usize, set: [u16; 7])
     let mut i = 0;
     while i < 7 {
         area[at + i] = set[i];
-        i = i + 1;
-    }
-}
-
-// Clears n entries of an area, from `at` on.
-pub fn clear_at(area: &mut [u16], at: usize, n: usize)
-    requires { ⌜ at + n ≤ length (now area) ⌝ }
-    ensures { λ _. ⌜ now (area .exit) ≡ over (now (area .entry)) at (zeros n) ⌝ }
-{
-    let mut i = 0;
-    while i < n {
-        area[at + i] = 0;
         i = i + 1;
     }
 }

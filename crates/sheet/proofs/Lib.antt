@@ -1,1 +1,7 @@
 pub mod Worked
+pub mod Values
+pub mod Rows
+pub mod Answering
+pub mod Searching
+pub mod Driving
+pub mod Reading

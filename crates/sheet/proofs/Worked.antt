@@ -8,11 +8,11 @@ use lib.Dec.{leb}
 use lib.ListN.{length}
 use Rattle.routes.specs.Edges.{eightSteps}
 use Rattle.text.specs.Forms.{decimal, decimalBy, signed}
-use Rattle.text.specs.Patterns.{bytes, is}
+use Rattle.text.specs.Patterns.{bytes}
 use Rattle.calls.proofs.Computing.{computing}
 use Rattle.layouts.specs.Flat.{inputsOf}
 use Rattle.results.specs.Texts.{refusalText, reasonText, spaced, pointText, layoutText, resultText}
-use Rattle.sheets.specs.Sheets.{Sheet, sheet, signedOf, rectOf, withinCaps, Accepted}
+use Rattle.sheets.specs.Sheets.{Sheet, sheet, signedOf, rectOf, withinCaps}
 use Rattle.sheet.specs.Drive.{boundsOf, startOf, endOf, allowedBy, limitsOf, queryOf, edgesOf, preparationOf, inputsFor, noBytes, noWork, noStore, stepText, searchText, allowText, driveText, AnswerOf, driven}
 
 unfoldable pub P : Sheet
@@ -37,7 +37,7 @@ drive-P : driveText eightSteps P ≡ bytes "(result Exhausted 4 3 2)\n(layout 0 
 unfolding P computing decimal decimalBy signed signedOf rectOf boundsOf startOf endOf allowedBy limitsOf queryOf edgesOf preparationOf inputsFor noBytes noWork noStore refusalText reasonText spaced pointText layoutText resultText stepText searchText allowText driveText inputsOf
 drive-P = refl
 
-abbrev pub textP : List ℕ
+abbrev textP : List ℕ
 textP =
     bytes "(map 1 1 1)\n(window 0 0 5 3)\n(ends 0 1 4 1)\n(block 0 0 0 0)\n(limits 100 32)\n(groups 2)\n(place 0 0 0 0 (2 0 3 3) (2 0 3 3))\n(place 0 0 0 0 (2 0 3 2) (2 0 3 2))\n(place 0 0 0 0 (2 2 3 3) (2 2 3 3))\n"
 

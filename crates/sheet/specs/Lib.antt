@@ -1,1 +1,3 @@
 pub mod Drive
+pub mod Inner
+pub mod Answers

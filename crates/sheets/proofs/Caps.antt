@@ -105,7 +105,7 @@ all-at P (a ∷ l) u zero lt = u .0
 all-at P (a ∷ l) u (suc i) lt = all-at P l (u .1) i (omega arith)
 
 -- rows of one width, each in its place of the flat list
-flat-at : (w : ℕ) (l : List (List ℕ)) → ((i : ℕ) → i < length l → length (getD l i []) ≡ w) → (i j : ℕ) → i < length l → j < w
+pub flat-at : (w : ℕ) (l : List (List ℕ)) → ((i : ℕ) → i < length l → length (getD l i []) ≡ w) → (i j : ℕ) → i < length l → j < w
     → getD (flat l) (w * i + j) 0 ≡ getD (getD l i []) j 0
 unfolding flat
 flat-at w [] h i j lt lj = absurd (omega arith)

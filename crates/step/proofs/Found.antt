@@ -27,9 +27,8 @@ use Rattle.calls.specs.RecordCheck.{recordFits}
 use Rattle.calls.specs.Calls.{beginChecks, planOf, stepChecks}
 use Rattle.calls.proofs.Whole.{Shape}
 use Rattle.calls.proofs.Checked.{checked-good}
-use Rattle.calls.proofs.StepLaws.{Passed, step-passed}
+use Rattle.calls.proofs.StepLaws.{first-both, Passed, step-passed}
 use Rattle.checks.specs.Parts.{allowSmall, allowLong, Whole}
-use Rattle.checks.proofs.Asked.{first-both}
 use Rattle.checks.proofs.Passed.{Begun, begun-found}
 use Rattle.checks.proofs.Placed.{places-whole}
 use Rattle.clear.specs.Stores.{Used, Passing, LaidBack}

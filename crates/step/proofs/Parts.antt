@@ -4,7 +4,7 @@ use mathlib.Core.Path.{_≡_, sym, _∙_, ap}
 use mathlib.Core.List.{List, _++_}
 use native.Mathlib.Omega.{arith}
 use lib.ListN.{length, take, drop, replicate, length-take, take-append-drop}
-use Rattle.rows.proofs.Stores.{length-zeros}
+use Rattle.laws.proofs.Stores.{length-zeros}
 
 module _ (c : ℕ) (l : List ℕ) (clear : take c l ≡ replicate c 0) where
   -- the area has the entries

@@ -8,6 +8,7 @@ use lib.IntN.{ℤ}
 use lib.ListN.{length, take, drop, replicate}
 use lib.Seq.{take-at}
 use Rattle.laws.specs.Lists.{padded}
+use Rattle.laws.proofs.Stores.{length-zeros}
 use Rattle.model.specs.Answers.{first}
 use Rattle.model.specs.declared.Limits.{Limits}
 use Rattle.model.specs.declared.Query.{Query}
@@ -22,7 +23,6 @@ use Rattle.search.specs.Frames.{step}
 use Rattle.calls.specs.Areas.{Work, Store, workIn, laid, cleared, stateOf, recordOf, storeOf}
 use Rattle.calls.specs.Calls.{planOf, stepChecks, stepCall}
 use Rattle.calls.proofs.StepLaws.{left, step-is}
-use Rattle.rows.proofs.Stores.{length-zeros}
 use Rattle.frames.specs.Kept.{terms, planIn, Holds}
 use Rattle.step.specs.Ground.{Clear, Kept}
 

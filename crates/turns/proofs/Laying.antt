@@ -9,7 +9,9 @@ use native.Mathlib.Numerals.{add-one}
 use native.Mathlib.Nat.{suc-mul, mul-le-mul-right}
 use lib.ListN.{length, take, drop, getD, set, length-append, length-map, length-reverse}
 use Rattle.laws.specs.Lists.{flat, padded}
+use Rattle.laws.specs.Fill.{zeros, over}
 use Rattle.laws.proofs.Members.{reverse-member}
+use Rattle.laws.proofs.Stores.{length-zeros, length-padded}
 use Rattle.model.specs.declared.Record.{Record}
 use Rattle.layouts.specs.Boards.{Board}
 use Rattle.search.specs.State.{Reason, Running, Exhausted, StateLimit, ResultLimit, Extensions, Layout, State, state, stop}
@@ -17,8 +19,8 @@ use Rattle.search.specs.Frames.{Plan}
 use Rattle.search.proofs.Moves.{held, taking}
 use Rattle.search.proofs.Formed.{Line, Lines}
 use Rattle.calls.specs.Areas.{numberOf, laid, row, recordOf}
-use Rattle.rows.specs.Lay.{zeros, over, Used}
-use Rattle.rows.proofs.Stores.{length-zeros, length-padded, padded-add, padded-cut, padded-set, padded-trail, padded-last}
+use Rattle.rows.specs.Lay.{Used}
+use Rattle.rows.proofs.Stores.{padded-add, padded-cut, padded-set, padded-trail, padded-last}
 use Rattle.rows.proofs.Blocks.{flat-snoc, length-flat}
 use Rattle.turns.specs.Held.{stackOf, stopRec, seenRec, takenRec, poppedRec, pushedRec}
 

@@ -6,7 +6,9 @@ use mathlib.Core.List.{List, [], _∷_, _++_, map, reverse, reverse-reverse, app
 use native.Mathlib.Omega.{arith}
 use lib.ListN.{length, drop, length-append, length-reverse}
 use Rattle.laws.specs.Lists.{flat, padded}
+use Rattle.laws.specs.Fill.{zeros}
 use Rattle.laws.proofs.Members.{reverse-member}
+use Rattle.laws.proofs.Stores.{length-padded}
 use Rattle.model.specs.declared.Limits.{Limits}
 use Rattle.model.specs.declared.Record.{Record}
 use Rattle.layouts.specs.Boards.{Board}
@@ -14,8 +16,7 @@ use Rattle.search.specs.State.{Extensions, State, setOn}
 use Rattle.search.specs.Frames.{Plan}
 use Rattle.search.proofs.Formed.{Lines, length-setOn}
 use Rattle.calls.specs.Areas.{laid, row, recordOf}
-use Rattle.rows.specs.Lay.{zeros, Seek, Stood, SomeStood}
-use Rattle.rows.proofs.Stores.{length-padded}
+use Rattle.rows.specs.Lay.{Seek, Stood, SomeStood}
 use Rattle.rows.proofs.Blocks.{length-flat}
 use Rattle.rows.proofs.Sets.{length-row}
 use Rattle.turns.specs.Held.{stackOf, rowsOf, Fitting, Part, SomePart}

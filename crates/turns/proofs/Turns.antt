@@ -8,6 +8,7 @@ use native.Mathlib.Omega.{arith}
 use native.Mathlib.Nat.{suc-mul, mul-le-mul-right}
 use lib.ListN.{length, getD}
 use Rattle.laws.specs.Lists.{anyOf, same}
+use Rattle.laws.specs.Fill.{zeros, over}
 use Rattle.laws.proofs.Sets.{among-true, among-false}
 use Rattle.model.specs.declared.Limits.{Limits}
 use Rattle.model.specs.declared.Record.{Record}
@@ -18,7 +19,6 @@ use Rattle.search.proofs.Moves.{after, held, taking, Looked, looks, Move, limit
 use Rattle.search.proofs.Steps.{goes-falls, advance-goes, advance-ends, frame-stopped}
 use Rattle.search.proofs.Formed.{Good, move-good}
 use Rattle.calls.specs.Areas.{numberOf, laid, recordOf}
-use Rattle.rows.specs.Lay.{zeros, over}
 use Rattle.turns.specs.declared.Moved.{Moved}
 use Rattle.turns.specs.Held.{stackOf, rowsOf, Sound, Fitting, Part, SomePart, Ripe, Turned, stopRec, seenRec, takenRec, poppedRec}
 use Rattle.turns.proofs.Laying.{Summed, summed, is-running, not-running, no-lists, as-running, as-pending, as-list, record-stop, next-is, long-is, top-is, record-taken, record-popped, lists-popped, record-seen, taking-stack, length-stack}

@@ -5,6 +5,7 @@ use mathlib.Core.Bool.{Bool, true, false}
 use mathlib.Core.List.{List, _++_, map, reverse}
 use lib.ListN.{length, take, drop, getD, set}
 use Rattle.laws.specs.Lists.{below, total, flat, padded}
+use Rattle.laws.specs.Fill.{zeros, over}
 use Rattle.model.specs.declared.Rect.{Rect}
 use Rattle.model.specs.declared.Position.{Position}
 use Rattle.model.specs.declared.Limits.{Limits}
@@ -19,7 +20,6 @@ use Rattle.search.proofs.Moves.{Fresh}
 use Rattle.search.proofs.Exhaustive.{PlanOn}
 use Rattle.search.proofs.Formed.{Good}
 use Rattle.calls.specs.Areas.{laid, row, numbers, recordOf}
-use Rattle.rows.specs.Lay.{zeros, over}
 use Rattle.turns.specs.declared.Moved.{Moved}
 
 -- the lists in order of making, n apart

@@ -3,7 +3,6 @@ use model::Limits;
 use model::Record;
 use model::Rect;
 use rows::among;
-use rows::clear_at;
 use rows::kept_points;
 use rows::put_row;
 use rows::route_positions;
@@ -14,12 +13,12 @@ ghost use mathlib.Core.List.{List};
 ghost use Prim.Native.Nat.{ℕ, _+_, _-_, _*_, _≤_, _<_};
 ghost use lib.ListN.{length, getD};
 ghost use Rattle.laws.specs.Lists.{anyOf, same};
+ghost use Rattle.laws.specs.Fill.{zeros, over};
 ghost use Rattle.layouts.specs.Boards.{Board};
 ghost use Rattle.search.specs.State.{State, Running, setOn};
 ghost use Rattle.search.specs.Frames as def;
 ghost use Rattle.search.specs.Frames.{Plan};
 ghost use Rattle.calls.specs.Areas.{recordOf};
-ghost use Rattle.rows.specs.Lay.{over, zeros};
 ghost use Rattle.turns.specs.Held.{Fitting, Part, SomePart, Turned, Sought, enteredRec, takenRec, poppedRec, pushedRec, Listable, Listing};
 
 // What a frame leaves, and whether another may follow before an evaluation.
@@ -81,7 +80,7 @@ fn pop(rec: Record, places: usize, lists: &mut [u16]) -> Record
     let mut out = rec;
     let k = index(out.lists - 1);
     let n = index(out.lengths[k]);
-    clear_at(lists, k * places, n);
+    areas::clear_u16_from(lists, k * places, n);
     out.lists = out.lists - 1;
     out.lengths[k] = 0;
     out.nexts[k] = 0;

@@ -9,7 +9,8 @@ use lib.IntN.{ℤ}
 use lib.ListN.{length, length-append}
 use Rattle.laws.specs.Lists.{select, below}
 use Rattle.laws.proofs.Lists.{below-out}
-use Rattle.laws.proofs.Turns.{filter-hit, filter-miss, filter-same, below-suc}
+use Rattle.laws.proofs.Turns.{filter-hit, filter-miss, filter-same}
+use Rattle.laws.proofs.Tests.{below-last}
 use Rattle.model.specs.declared.Query.{Query}
 use Rattle.rects.specs.Windows.{centres, centreAt}
 use Rattle.routes.specs.Edges.{Step}
@@ -41,7 +42,7 @@ module _ (f : ℕ → Bool) (n : ℕ) where
     tally-miss e = record {
       upto = h;
       few = omega (arith, t .few);
-      so = t .so ∙ ap length (sym (filter-miss f (below i) i e)) ∙ rw (add-one i, below-suc i);
+      so = t .so ∙ ap length (sym (filter-miss f (below i) i e)) ∙ rw (add-one i, below-last i);
     }
 
     pub tally-hit : f i ≡ true → Tallied f n (count + 1) (i + 1)
@@ -50,7 +51,7 @@ module _ (f : ℕ → Bool) (n : ℕ) where
       few = omega (arith, t .few);
       so =
           let l : length (select f (below (i + 1))) ≡ length (select f (below i)) + 1 =
-          rw (add-one i, below-suc i, filter-hit f (below i) i e) (length-append (select f (below i)) (i ∷ []))
+          rw (add-one i, below-last i, filter-hit f (below i) i e) (length-append (select f (below i)) (i ∷ []))
           in
           omega (arith, t .so);
     }

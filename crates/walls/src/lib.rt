@@ -361,11 +361,11 @@ fn judge_core(
 ) -> Judged
     ensures { λ r. ⌜ ((ps : List Placement) → rows ≡ rowsOf ps → count ≡ length ps → judgeCall eightSteps (given query (now (groups .entry)) ps (now («block_base» .entry)) (now («allow_base» .entry))) (now (selection .entry)) (workIn (now (counts .entry)) (now (map .entry)) (now (queue .entry)) (now (predecessors .entry)) (now (route .entry))) ≡ record { answer = judgementOf r; work = workIn (now (counts .exit)) (now (map .exit)) (now (queue .exit)) (now (predecessors .exit)) (now (route .exit)) }) ⌝ }
 {
-    let laid = flat::at_most(count);
+    let most = flat::at_most(count);
     let numbers = rows.numbers;
     let edges = rows.edges;
-    let fours = NUMBERS * laid;
-    let eights = EDGES * laid;
+    let fours = NUMBERS * most;
+    let eights = EDGES * most;
     judge::judge(
         query,
         groups,

@@ -60,9 +60,19 @@ pub fn terrain(case: &Case) -> TerrainGrid {
 /// `prepare_mover`: the baseline, or refusal 7, 8 or 9.
 pub fn prepare(case: &Case, mover: Bounds) -> Result<Vec<bool>, u32> {
     let obstacles: Vec<PixelRect> = case.obstacles.iter().copied().map(rect).collect();
+    prepare_on(&terrain(case), &obstacles, case, mover)
+}
+
+/// `prepare_mover` on the case's terrain and obstacles, made before: the baseline, or refusal 7, 8 or 9.
+pub fn prepare_on(
+    grid: &TerrainGrid,
+    obstacles: &[PixelRect],
+    case: &Case,
+    mover: Bounds,
+) -> Result<Vec<bool>, u32> {
     prepare_mover(
-        &terrain(case),
-        &obstacles,
+        grid,
+        obstacles,
         rect(case.window),
         position(case.start),
         position(case.end),

@@ -4,6 +4,7 @@ use mathlib.Core.Path.{_≡_, refl, sym, ap, subst, _∙_}
 use Prim.Native.Nat.{ℕ}
 use native.Mathlib.Omega.{arith}
 use lib.ListN.{length}
+use Rattle.calls.proofs.StepLaws.{first-both}
 use Rattle.model.specs.Answers.{replyOf}
 use Rattle.routes.specs.Edges.{eightSteps}
 use Rattle.layouts.specs.Flat.{placementsOf, inputsOf}
@@ -12,7 +13,6 @@ use Rattle.search.specs.Frames.{begun}
 use Rattle.calls.specs.Areas.{workIn, storeIn, recordOf}
 use Rattle.calls.specs.Checks.{placeChecks}
 use Rattle.calls.specs.Calls.{bothRoutes}
-use Rattle.checks.proofs.Asked.{first-both}
 use Rattle.checks.proofs.Passed.{done-passes, refused-says, begun-found}
 use Rattle.checks.proofs.Placed.{places-whole}
 use Rattle.clearing.specs.Room.{Room}

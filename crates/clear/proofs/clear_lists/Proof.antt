@@ -1,8 +1,6 @@
 -- `clear::clear_lists` meets its contract: the lists passed have their unused entries zero, and those to come are untouched. The measure is the number of lists left.
 use Prim.Native.Nat.{_-_}
 use native.Mathlib.Omega.{arith}
-use mathlib.Core.Path.{_∙_}
-use Rattle.clear.proofs.Laws.{zeroed-over}
 use Rattle.clear.proofs.ListLaws.{Swept, swept-begin, swept-place, swept-fits, swept-next, swept-last, swept-length, swept-end}
 use Rattle.clear.proofs.clear_lists.Statement.{statement}
 use Rattle.clear.proofs.clear_lists.Tie as tie
@@ -31,17 +29,17 @@ array-read-used c = omega (arith, (swept-place _ _ _ _ _ _ (c .before .before .b
 cast-used : tie.Need-cast-used Inv-loop μ-loop
 cast-used c = omega (arith, swept-fits _ _ _ _ _ _ (c .before .before .before .before .before .before .pre) (c .before .loop .inv) (c .loop-test .taken), c .before .before .before .before .before .before .pre .small)
 
-mul-clear-in : tie.Need-mul-clear-in Inv-loop μ-loop
-mul-clear-in c = omega (arith, (swept-place _ _ _ _ _ _ (c .before .before .before .before .before .before .before .pre) (c .before .before .loop .inv) (c .before .loop-test .taken)) .small)
+mul-clear-u16-from : tie.Need-mul-clear-u16-from Inv-loop μ-loop
+mul-clear-u16-from c = omega (arith, (swept-place _ _ _ _ _ _ (c .before .before .before .before .before .before .before .pre) (c .before .before .loop .inv) (c .before .loop-test .taken)) .small)
 
-add-clear-in : tie.Need-add-clear-in Inv-loop μ-loop
-add-clear-in c = omega (arith, swept-fits _ _ _ _ _ _ (c .before .before .before .before .before .before .before .pre) (c .before .before .loop .inv) (c .before .loop-test .taken), (swept-place _ _ _ _ _ _ (c .before .before .before .before .before .before .before .pre) (c .before .before .loop .inv) (c .before .loop-test .taken)) .small)
+add-clear-u16-from : tie.Need-add-clear-u16-from Inv-loop μ-loop
+add-clear-u16-from c = omega (arith, swept-fits _ _ _ _ _ _ (c .before .before .before .before .before .before .before .pre) (c .before .before .loop .inv) (c .before .loop-test .taken), (swept-place _ _ _ _ _ _ (c .before .before .before .before .before .before .before .pre) (c .before .before .loop .inv) (c .before .loop-test .taken)) .small)
 
-sub-clear-in : tie.Need-sub-clear-in Inv-loop μ-loop
-sub-clear-in c = swept-fits _ _ _ _ _ _ (c .before .before .before .before .before .before .before .pre) (c .before .before .loop .inv) (c .before .loop-test .taken)
+sub-clear-u16-from : tie.Need-sub-clear-u16-from Inv-loop μ-loop
+sub-clear-u16-from c = swept-fits _ _ _ _ _ _ (c .before .before .before .before .before .before .before .pre) (c .before .before .loop .inv) (c .before .loop-test .taken)
 
-clear-in-requires : tie.Need-clear-in-requires Inv-loop μ-loop
-clear-in-requires c κs = omega (arith, swept-fits _ _ _ _ _ _ (c .before .before .before .before .before .before .before .pre) (c .before .before .loop .inv) (c .before .loop-test .taken), (swept-place _ _ _ _ _ _ (c .before .before .before .before .before .before .before .pre) (c .before .before .loop .inv) (c .before .loop-test .taken)) .inside)
+clear-u16-from-requires : tie.Need-clear-u16-from-requires Inv-loop μ-loop
+clear-u16-from-requires c κs = omega (arith, swept-fits _ _ _ _ _ _ (c .before .before .before .before .before .before .before .pre) (c .before .before .loop .inv) (c .before .loop-test .taken), (swept-place _ _ _ _ _ _ (c .before .before .before .before .before .before .before .pre) (c .before .before .loop .inv) (c .before .loop-test .taken)) .inside)
 
 add-k : tie.Need-add-k Inv-loop μ-loop
 add-k c = omega (arith, (swept-place _ _ _ _ _ _ (c .before .before .before .before .before .before .before .before .before .before .pre) (c .before .before .before .before .before .loop .inv) (c .before .before .before .before .loop-test .taken)) .low)
@@ -50,28 +48,28 @@ loop-less : tie.Need-loop-less Inv-loop μ-loop
 loop-less c = omega (arith)
 
 loop-again : tie.Need-loop-again Inv-loop μ-loop
-loop-again c = swept-next _ _ _ _ _ _ (c .before .before .before .before .before .before .before .before .before .before .pre) (c .before .before .before .before .before .loop .inv) (c .before .before .before .before .loop-test .taken) _ (c .before .before .clear-in .ensures ∙ zeroed-over _ _ _)
+loop-again c = swept-next _ _ _ _ _ _ (c .before .before .before .before .before .before .before .before .before .before .pre) (c .before .before .before .before .before .loop .inv) (c .before .before .before .before .loop-test .taken) _ (c .before .before .clear-u16-from .ensures)
 
-mul-clear-in-2 : tie.Need-mul-clear-in-2 Inv-loop μ-loop
-mul-clear-in-2 c = omega (arith, (swept-last _ _ _ _ _ _ (c .before .before .before .before .before .before .before .pre) (c .before .before .loop .inv)) .below, (swept-last _ _ _ _ _ _ (c .before .before .before .before .before .before .before .pre) (c .before .before .loop .inv)) .small)
+mul-clear-u16-from-2 : tie.Need-mul-clear-u16-from-2 Inv-loop μ-loop
+mul-clear-u16-from-2 c = omega (arith, (swept-last _ _ _ _ _ _ (c .before .before .before .before .before .before .before .pre) (c .before .before .loop .inv)) .below, (swept-last _ _ _ _ _ _ (c .before .before .before .before .before .before .before .pre) (c .before .before .loop .inv)) .small)
 
-mul-clear-in-3 : tie.Need-mul-clear-in-3 Inv-loop μ-loop
-mul-clear-in-3 c = omega (arith, (swept-last _ _ _ _ _ _ (c .before .before .before .before .before .before .before .pre) (c .before .before .loop .inv)) .small)
+mul-clear-u16-from-3 : tie.Need-mul-clear-u16-from-3 Inv-loop μ-loop
+mul-clear-u16-from-3 c = omega (arith, (swept-last _ _ _ _ _ _ (c .before .before .before .before .before .before .before .pre) (c .before .before .loop .inv)) .small)
 
-mul-clear-in-4 : tie.Need-mul-clear-in-4 Inv-loop μ-loop
-mul-clear-in-4 c = omega (arith, (swept-last _ _ _ _ _ _ (c .before .before .before .before .before .before .before .pre) (c .before .before .loop .inv)) .below, (swept-last _ _ _ _ _ _ (c .before .before .before .before .before .before .before .pre) (c .before .before .loop .inv)) .small)
+mul-clear-u16-from-4 : tie.Need-mul-clear-u16-from-4 Inv-loop μ-loop
+mul-clear-u16-from-4 c = omega (arith, (swept-last _ _ _ _ _ _ (c .before .before .before .before .before .before .before .pre) (c .before .before .loop .inv)) .below, (swept-last _ _ _ _ _ _ (c .before .before .before .before .before .before .before .pre) (c .before .before .loop .inv)) .small)
 
-sub-clear-in-2 : tie.Need-sub-clear-in-2 Inv-loop μ-loop
-sub-clear-in-2 c = (swept-last _ _ _ _ _ _ (c .before .before .before .before .before .before .before .pre) (c .before .before .loop .inv)) .below
+sub-clear-u16-from-2 : tie.Need-sub-clear-u16-from-2 Inv-loop μ-loop
+sub-clear-u16-from-2 c = (swept-last _ _ _ _ _ _ (c .before .before .before .before .before .before .before .pre) (c .before .before .loop .inv)) .below
 
-clear-in-requires-2 : tie.Need-clear-in-requires-2 Inv-loop μ-loop
-clear-in-requires-2 c κs = omega (arith, (swept-last _ _ _ _ _ _ (c .before .before .before .before .before .before .before .pre) (c .before .before .loop .inv)) .below, (swept-last _ _ _ _ _ _ (c .before .before .before .before .before .before .before .pre) (c .before .before .loop .inv)) .inside)
+clear-u16-from-requires-2 : tie.Need-clear-u16-from-requires-2 Inv-loop μ-loop
+clear-u16-from-requires-2 c κs = omega (arith, (swept-last _ _ _ _ _ _ (c .before .before .before .before .before .before .before .pre) (c .before .before .loop .inv)) .below, (swept-last _ _ _ _ _ _ (c .before .before .before .before .before .before .before .pre) (c .before .before .loop .inv)) .inside)
 
 same-length : tie.Need-same-length Inv-loop μ-loop
-same-length c = swept-length _ _ _ _ _ _ (c .before .before .before .before .before .before .before .before .before .before .pre) (c .before .before .before .before .before .loop .inv) _ (c .before .before .clear-in2 .ensures ∙ zeroed-over _ _ _)
+same-length c = swept-length _ _ _ _ _ _ (c .before .before .before .before .before .before .before .before .before .before .pre) (c .before .before .before .before .before .loop .inv) _ (c .before .before .clear-u16-from2 .ensures)
 
 returns : tie.Need-returns Inv-loop μ-loop
-returns c = swept-end _ (c .before .before .before .before .before .before .before .before .before .before .args .rec) _ _ (c .before .before .before .before .before .before .before .before .before .before .pre) (c .before .before .before .before .before .loop .inv) (c .before .before .before .before .loop-test .left) _ (c .before .before .clear-in2 .ensures ∙ zeroed-over _ _ _)
+returns c = swept-end _ (c .before .before .before .before .before .before .before .before .before .before .args .rec) _ _ (c .before .before .before .before .before .before .before .before .before .before .pre) (c .before .before .before .before .before .loop .inv) (c .before .before .before .before .loop-test .left) _ (c .before .before .clear-u16-from2 .ensures)
 
 pub clear-lists-spec : {M : Type 1} → statement M
 clear-lists-spec =
@@ -85,17 +83,17 @@ clear-lists-spec =
     mul-used
     array-read-used
     cast-used
-    mul-clear-in
-    add-clear-in
-    sub-clear-in
-    clear-in-requires
+    mul-clear-u16-from
+    add-clear-u16-from
+    sub-clear-u16-from
+    clear-u16-from-requires
     add-k
     loop-less
     loop-again
-    mul-clear-in-2
-    mul-clear-in-3
-    mul-clear-in-4
-    sub-clear-in-2
-    clear-in-requires-2
+    mul-clear-u16-from-2
+    mul-clear-u16-from-3
+    mul-clear-u16-from-4
+    sub-clear-u16-from-2
+    clear-u16-from-requires-2
     same-length
     returns)

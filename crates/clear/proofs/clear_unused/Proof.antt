@@ -40,9 +40,7 @@ index-requires-5 : tie.Need-index-requires-5
 index-requires-5 c κs = search needs
 
 kept-points-requires : tie.Need-kept-points-requires
-kept-points-requires c κs =
-    let r = c .before .before .before .before .before .before .before .before .before .before .before .before .before .before .before .before .before .before .before .before .before .before .args .rec in
-    (omega (arith, c .before .before .before .before .before .before .before .before .before .before .before .before .before .before .before .before .before .before .before .before .before .before .pre .shown, c .index5 .ensures), omega (arith, c .before .before .before .before .before .before .before .before .before .before .before .before .before .before .before .before .before .before .before .before .before .before .pre .kept, ap (λ (k : ℕ). total (take k (r .routes))) (c .index5 .ensures)))
+kept-points-requires c κs = omega (arith, c .before .before .before .before .before .before .before .before .before .before .before .before .before .before .before .before .before .before .before .before .before .before .pre .shown, c .index5 .ensures)
 
 mul-used : tie.Need-mul-used
 mul-used c =
@@ -52,13 +50,13 @@ mul-used c =
 points-length-requires : tie.Need-points-length-requires
 points-length-requires c κs = (c .before .before .before .before .before .before .before .before .before .before .before .before .before .before .before .before .before .before .before .before .before .before .before .before .pre .window, c .before .before .before .before .before .before .before .before .before .before .before .before .before .before .before .before .before .before .before .before .before .before .before .before .pre .results)
 
-sub-clear-points : tie.Need-sub-clear-points
-sub-clear-points c =
+sub-clear-u32-from : tie.Need-sub-clear-u32-from
+sub-clear-u32-from c =
     let r = c .before .before .before .before .before .before .before .before .before .before .before .before .before .before .before .before .before .before .before .before .before .before .before .before .before .args .rec in
     omega (arith, c .before .before .kept-points .ensures, c .before .before .before .before .before .before .before .before .before .before .before .before .before .before .before .before .before .before .before .before .before .before .before .before .before .pre .pointsIn, c .points-length .ensures .0, ap (λ (k : ℕ). total (take k (r .routes))) (c .before .before .before .index5 .ensures))
 
-clear-points-requires : tie.Need-clear-points-requires
-clear-points-requires c κs =
+clear-u32-from-requires : tie.Need-clear-u32-from-requires
+clear-u32-from-requires c κs =
     let r = c .before .before .before .before .before .before .before .before .before .before .before .before .before .before .before .before .before .before .before .before .before .before .before .before .before .args .rec in
     omega (arith, c .before .before .kept-points .ensures, c .before .before .before .before .before .before .before .before .before .before .before .before .before .before .before .before .before .before .before .before .before .before .before .before .before .pre .pointsIn, c .before .before .before .before .before .before .before .before .before .before .before .before .before .before .before .before .before .before .before .before .before .before .before .before .before .pre .pointsLong, c .points-length .ensures .0, ap (λ (k : ℕ). total (take k (r .routes))) (c .before .before .before .index5 .ensures))
 
@@ -86,12 +84,12 @@ returns c = λ i p.
       listsAre = c .before .before .before .before .before .before .before .before .before .before .before .before .before .before .before .before .before .before .before .before .before .before .before .clear-lists .ensures;
       visitedAre = rw (c .before .before .before .before .before .before .before .before .before .before .before .before .before .before .before .before .before .before .before .index .ensures, c .before .before .before .before .before .before .before .before .before .before .before .before .before .before .before .before .before .before .index2 .ensures) at (c .before .before .before .before .before .before .before .before .before .before .before .before .before .before .before .before .before .clear-rows .ensures);
       layoutsAre = rw (c .before .before .before .before .before .before .before .before .before .before .before .before .before .index3 .ensures, c .before .before .before .before .before .before .before .before .before .before .before .before .index4 .ensures) at (c .before .before .before .before .before .before .before .before .before .before .before .clear-rows2 .ensures);
-      pointsAre = rw (c .before .before .before .before .points-length .ensures .0, c .before .before .before .before .before .before .kept-points .ensures, c .before .before .before .before .before .before .before .index5 .ensures) at (c .before .before .before .clear-points .ensures);
+      pointsAre = rw (c .before .before .before .before .points-length .ensures .0, c .before .before .before .before .before .before .kept-points .ensures, c .before .before .before .before .before .before .before .index5 .ensures) at (c .before .before .before .clear-u32-from .ensures);
     }) p)
 
 pub clear-unused-spec : {M : Type 1} → statement M
 clear-unused-spec =
     tie.close
     (tie.spec clear-lists-requires index-requires index-requires-2 mul-clear-rows clear-rows-requires index-requires-3 index-requires-4 mul-clear-rows-2
-    clear-rows-requires-2 index-requires-5 kept-points-requires mul-used points-length-requires sub-clear-points clear-points-requires tidied-requires same-length
+    clear-rows-requires-2 index-requires-5 kept-points-requires mul-used points-length-requires sub-clear-u32-from clear-u32-from-requires tidied-requires same-length
     same-length-2 same-length-3 same-length-4 returns)

@@ -37,28 +37,28 @@ centre-at-requires-2 c κs = (c .before .before .before .before .before .pre .wi
 shared-slice-read-if1 : tie.Need-shared-slice-read-if1
 shared-slice-read-if1 c =
     let a = c .before .before .before .before .before .before .before .args in
-    omega (arith, c .before .before .centre-at .ensures, centreAt-below (a .window) (a .start) (c .before .before .before .before .before .before .before .pre .startIn), c .before .before .before .before .before .before .before .pre .baseRoom)
+    omega (arith, c .before .before .centre-at .ensures .0, centreAt-below (a .window) (a .start) (c .before .before .before .before .before .before .before .pre .startIn), c .before .before .before .before .before .before .before .pre .baseRoom)
 
 returns : tie.Need-returns
 unfolding replyOf saidOf
 returns c =
     let a = c .before .before .before .before .before .before .before .before .args in (
-      start-blocked (stepsOf (a .steps .now)) (a .window) (a .start) (a .end) (a .base .now) (closed (a .base .now) (c .before .before .before .centre-at .result) (centreAt (a .window) (a .start)) (c .before .before .before .centre-at .ensures) (c .if1 .taken)),
+      start-blocked (stepsOf (a .steps .now)) (a .window) (a .start) (a .end) (a .base .now) (closed (a .base .now) (c .before .before .before .centre-at .result) (centreAt (a .window) (a .start)) (c .before .before .before .centre-at .ensures .0) (c .if1 .taken)),
       (refl, (refl, refl)),
     )
 
 shared-slice-read-if2 : tie.Need-shared-slice-read-if2
 shared-slice-read-if2 c =
     let a = c .before .before .before .before .before .before .before .before .before .args in
-    omega (arith, c .before .before .before .centre-at2 .ensures, centreAt-below (a .window) (a .end) (c .before .before .before .before .before .before .before .before .before .pre .endIn), c .before .before .before .before .before .before .before .before .before .pre .baseRoom)
+    omega (arith, c .before .before .before .centre-at2 .ensures .0, centreAt-below (a .window) (a .end) (c .before .before .before .before .before .before .before .before .before .pre .endIn), c .before .before .before .before .before .before .before .before .before .pre .baseRoom)
 
 returns-2 : tie.Need-returns-2
 unfolding replyOf saidOf
 returns-2 c =
     let a = c .before .before .before .before .before .before .before .before .before .before .args in (
       end-blocked (stepsOf (a .steps .now)) (a .window) (a .start) (a .end) (a .base .now)
-          (opened (a .base .now) (c .before .before .before .before .before .centre-at .result) (centreAt (a .window) (a .start)) (c .before .before .before .before .before .centre-at .ensures) (c .before .before .if1 .left))
-          (closed (a .base .now) (c .before .before .before .before .centre-at2 .result) (centreAt (a .window) (a .end)) (c .before .before .before .before .centre-at2 .ensures) (c .if2 .taken)),
+          (opened (a .base .now) (c .before .before .before .before .before .centre-at .result) (centreAt (a .window) (a .start)) (c .before .before .before .before .before .centre-at .ensures .0) (c .before .before .if1 .left))
+          (closed (a .base .now) (c .before .before .before .before .centre-at2 .result) (centreAt (a .window) (a .end)) (c .before .before .before .before .centre-at2 .ensures .0) (c .if2 .taken)),
       (refl, (refl, refl)),
     )
 
@@ -71,7 +71,7 @@ height-requires c κs = framed 8192 8192 (c .before .before .before .before .bef
 route-requires : tie.Need-route-requires
 route-requires c κs =
     route-ready (stepsOf (c .before .before .before .before .before .before .before .before .before .before .before .before .before .before .before .args .steps .now)) (c .before .before .before .before .before .before .before .before .before .before .before .before .before .before .before .pre) (c .before .before .before .before .width .result) (c .before .before .before .height .result) (c .before .before .before .before .before .before .before .before .before .before .centre-at .result) (c .before .before .before .before .before .before .before .before .before .centre-at2 .result)
-    (c .before .before .before .before .width .ensures .0) (c .before .before .before .height .ensures .0) (c .before .before .before .before .before .before .before .before .before .before .centre-at .ensures) (c .before .before .before .before .before .before .before .before .before .centre-at2 .ensures)
+    (c .before .before .before .before .width .ensures .0) (c .before .before .before .height .ensures .0) (c .before .before .before .before .before .before .before .before .before .before .centre-at .ensures .0) (c .before .before .before .before .before .before .before .before .before .centre-at2 .ensures .0)
 
 same-length : tie.Need-same-length
 same-length c = search needs
@@ -87,9 +87,9 @@ unfolding replyOf saidOf
 returns-3 c =
     let a = c .before .before .before .before .before .before .before .before .before .before .before .before .before .before .before .before .before .before .before .before .before .before .before .args in
     let k = passes-not (stepsOf (a .steps .now)) (c .before .before .before .before .before .before .before .before .before .before .before .before .before .before .before .before .before .before .before .before .before .before .before .pre) (c .before .before .before .before .before .before .before .before .before .before .before .before .width .result) (c .before .before .before .before .before .before .before .before .before .before .before .height .result) (c .before .before .before .before .before .before .before .before .before .before .before .before .before .before .before .before .before .before .centre-at .result) (c .before .before .before .before .before .before .before .before .before .before .before .before .before .before .before .before .before .centre-at2 .result)
-    (c .before .before .before .before .before .before .before .before .before .before .before .before .width .ensures .0) (c .before .before .before .before .before .before .before .before .before .before .before .height .ensures .0) (c .before .before .before .before .before .before .before .before .before .before .before .before .before .before .before .before .before .before .centre-at .ensures) (c .before .before .before .before .before .before .before .before .before .before .before .before .before .before .before .before .before .centre-at2 .ensures) (c .before .before .before .before .before .before .before .route .ensures .0)
-    (opened (a .base .now) (c .before .before .before .before .before .before .before .before .before .before .before .before .before .before .before .before .before .before .centre-at .result) (centreAt (a .window) (a .start)) (c .before .before .before .before .before .before .before .before .before .before .before .before .before .before .before .before .before .before .centre-at .ensures) (c .before .before .before .before .before .before .before .before .before .before .before .before .before .before .before .if1 .left))
-    (opened (a .base .now) (c .before .before .before .before .before .before .before .before .before .before .before .before .before .before .before .before .before .centre-at2 .result) (centreAt (a .window) (a .end)) (c .before .before .before .before .before .before .before .before .before .before .before .before .before .before .before .before .before .centre-at2 .ensures) (c .before .before .before .before .before .before .before .before .before .before .before .before .before .if2 .left))
+    (c .before .before .before .before .before .before .before .before .before .before .before .before .width .ensures .0) (c .before .before .before .before .before .before .before .before .before .before .before .height .ensures .0) (c .before .before .before .before .before .before .before .before .before .before .before .before .before .before .before .before .before .before .centre-at .ensures .0) (c .before .before .before .before .before .before .before .before .before .before .before .before .before .before .before .before .before .centre-at2 .ensures .0) (c .before .before .before .before .before .before .before .route .ensures .0)
+    (opened (a .base .now) (c .before .before .before .before .before .before .before .before .before .before .before .before .before .before .before .before .before .before .centre-at .result) (centreAt (a .window) (a .start)) (c .before .before .before .before .before .before .before .before .before .before .before .before .before .before .before .before .before .before .centre-at .ensures .0) (c .before .before .before .before .before .before .before .before .before .before .before .before .before .before .before .if1 .left))
+    (opened (a .base .now) (c .before .before .before .before .before .before .before .before .before .before .before .before .before .before .before .before .before .centre-at2 .result) (centreAt (a .window) (a .end)) (c .before .before .before .before .before .before .before .before .before .before .before .before .before .before .before .before .before .centre-at2 .ensures .0) (c .before .before .before .before .before .before .before .before .before .before .before .before .before .if2 .left))
     (c .if3 .taken)
     in
     (k .0, (c .before .before .before .before .before .before .before .route .ensures .1 .queueSame, (c .before .before .before .before .before .before .before .route .ensures .1 .previousSame, k .1)))
@@ -98,9 +98,9 @@ clear-u32-requires : tie.Need-clear-u32-requires
 clear-u32-requires c κs =
     let a = c .before .before .before .before .before .before .before .before .before .before .before .before .before .before .before .before .before .before .before .before .before .before .before .before .args in
     path-room (stepsOf (a .steps .now)) (c .before .before .before .before .before .before .before .before .before .before .before .before .before .before .before .before .before .before .before .before .before .before .before .before .pre) (c .before .before .before .before .before .before .before .before .before .before .before .before .before .width .result) (c .before .before .before .before .before .before .before .before .before .before .before .before .height .result) (c .before .before .before .before .before .before .before .before .before .before .before .before .before .before .before .before .before .before .before .centre-at .result) (c .before .before .before .before .before .before .before .before .before .before .before .before .before .before .before .before .before .before .centre-at2 .result)
-    (c .before .before .before .before .before .before .before .before .before .before .before .before .before .width .ensures .0) (c .before .before .before .before .before .before .before .before .before .before .before .before .height .ensures .0) (c .before .before .before .before .before .before .before .before .before .before .before .before .before .before .before .before .before .before .before .centre-at .ensures) (c .before .before .before .before .before .before .before .before .before .before .before .before .before .before .before .before .before .before .centre-at2 .ensures) (c .before .before .before .before .before .before .before .before .route .ensures .0)
-    (opened (a .base .now) (c .before .before .before .before .before .before .before .before .before .before .before .before .before .before .before .before .before .before .before .centre-at .result) (centreAt (a .window) (a .start)) (c .before .before .before .before .before .before .before .before .before .before .before .before .before .before .before .before .before .before .before .centre-at .ensures) (c .before .before .before .before .before .before .before .before .before .before .before .before .before .before .before .before .if1 .left))
-    (opened (a .base .now) (c .before .before .before .before .before .before .before .before .before .before .before .before .before .before .before .before .before .before .centre-at2 .result) (centreAt (a .window) (a .end)) (c .before .before .before .before .before .before .before .before .before .before .before .before .before .before .before .before .before .before .centre-at2 .ensures) (c .before .before .before .before .before .before .before .before .before .before .before .before .before .before .if2 .left))
+    (c .before .before .before .before .before .before .before .before .before .before .before .before .before .width .ensures .0) (c .before .before .before .before .before .before .before .before .before .before .before .before .height .ensures .0) (c .before .before .before .before .before .before .before .before .before .before .before .before .before .before .before .before .before .before .before .centre-at .ensures .0) (c .before .before .before .before .before .before .before .before .before .before .before .before .before .before .before .before .before .before .centre-at2 .ensures .0) (c .before .before .before .before .before .before .before .before .route .ensures .0)
+    (opened (a .base .now) (c .before .before .before .before .before .before .before .before .before .before .before .before .before .before .before .before .before .before .before .centre-at .result) (centreAt (a .window) (a .start)) (c .before .before .before .before .before .before .before .before .before .before .before .before .before .before .before .before .before .before .before .centre-at .ensures .0) (c .before .before .before .before .before .before .before .before .before .before .before .before .before .before .before .before .if1 .left))
+    (opened (a .base .now) (c .before .before .before .before .before .before .before .before .before .before .before .before .before .before .before .before .before .before .centre-at2 .result) (centreAt (a .window) (a .end)) (c .before .before .before .before .before .before .before .before .before .before .before .before .before .before .before .before .before .before .centre-at2 .ensures .0) (c .before .before .before .before .before .before .before .before .before .before .before .before .before .before .if2 .left))
 
 same-length-4 : tie.Need-same-length-4
 same-length-4 c = search needs
@@ -115,16 +115,16 @@ returns-4 : tie.Need-returns-4
 unfolding replyOf saidOf
 returns-4 c =
     let a = c .before .before .before .before .before .before .before .before .before .before .before .before .before .before .before .before .before .before .before .before .before .before .before .before .before .before .before .args in
-    let so = opened (a .base .now) (c .before .before .before .before .before .before .before .before .before .before .before .before .before .before .before .before .before .before .before .before .before .before .centre-at .result) (centreAt (a .window) (a .start)) (c .before .before .before .before .before .before .before .before .before .before .before .before .before .before .before .before .before .before .before .before .before .before .centre-at .ensures) (c .before .before .before .before .before .before .before .before .before .before .before .before .before .before .before .before .before .before .before .if1 .left) in
-    let eo = opened (a .base .now) (c .before .before .before .before .before .before .before .before .before .before .before .before .before .before .before .before .before .before .before .before .before .centre-at2 .result) (centreAt (a .window) (a .end)) (c .before .before .before .before .before .before .before .before .before .before .before .before .before .before .before .before .before .before .before .before .before .centre-at2 .ensures) (c .before .before .before .before .before .before .before .before .before .before .before .before .before .before .before .before .before .if2 .left) in (
+    let so = opened (a .base .now) (c .before .before .before .before .before .before .before .before .before .before .before .before .before .before .before .before .before .before .before .before .before .before .centre-at .result) (centreAt (a .window) (a .start)) (c .before .before .before .before .before .before .before .before .before .before .before .before .before .before .before .before .before .before .before .before .before .before .centre-at .ensures .0) (c .before .before .before .before .before .before .before .before .before .before .before .before .before .before .before .before .before .before .before .if1 .left) in
+    let eo = opened (a .base .now) (c .before .before .before .before .before .before .before .before .before .before .before .before .before .before .before .before .before .before .before .before .before .centre-at2 .result) (centreAt (a .window) (a .end)) (c .before .before .before .before .before .before .before .before .before .before .before .before .before .before .before .before .before .before .before .before .before .centre-at2 .ensures .0) (c .before .before .before .before .before .before .before .before .before .before .before .before .before .before .before .before .before .if2 .left) in (
       passes (stepsOf (a .steps .now)) (c .before .before .before .before .before .before .before .before .before .before .before .before .before .before .before .before .before .before .before .before .before .before .before .before .before .before .before .pre) (c .before .before .before .before .before .before .before .before .before .before .before .before .before .before .before .before .width .result) (c .before .before .before .before .before .before .before .before .before .before .before .before .before .before .before .height .result) (c .before .before .before .before .before .before .before .before .before .before .before .before .before .before .before .before .before .before .before .before .before .before .centre-at .result) (c .before .before .before .before .before .before .before .before .before .before .before .before .before .before .before .before .before .before .before .before .before .centre-at2 .result)
-          (c .before .before .before .before .before .before .before .before .before .before .before .before .before .before .before .before .width .ensures .0) (c .before .before .before .before .before .before .before .before .before .before .before .before .before .before .before .height .ensures .0) (c .before .before .before .before .before .before .before .before .before .before .before .before .before .before .before .before .before .before .before .before .before .before .centre-at .ensures) (c .before .before .before .before .before .before .before .before .before .before .before .before .before .before .before .before .before .before .before .before .before .centre-at2 .ensures) (c .before .before .before .before .before .before .before .before .before .before .before .route .ensures .0) so eo (c .before .before .before .before .if3 .left),
+          (c .before .before .before .before .before .before .before .before .before .before .before .before .before .before .before .before .width .ensures .0) (c .before .before .before .before .before .before .before .before .before .before .before .before .before .before .before .height .ensures .0) (c .before .before .before .before .before .before .before .before .before .before .before .before .before .before .before .before .before .before .before .before .before .before .centre-at .ensures .0) (c .before .before .before .before .before .before .before .before .before .before .before .before .before .before .before .before .before .before .before .before .before .centre-at2 .ensures .0) (c .before .before .before .before .before .before .before .before .before .before .before .route .ensures .0) so eo (c .before .before .before .before .if3 .left),
       (
         c .before .before .before .before .before .before .before .before .before .before .before .route .ensures .1 .queueSame,
         (
           c .before .before .before .before .before .before .before .before .before .before .before .route .ensures .1 .previousSame,
           c .before .before .clear-u32 .ensures ∙ path-restored (stepsOf (a .steps .now)) (c .before .before .before .before .before .before .before .before .before .before .before .before .before .before .before .before .before .before .before .before .before .before .before .before .before .before .before .pre) (c .before .before .before .before .before .before .before .before .before .before .before .before .before .before .before .before .width .result) (c .before .before .before .before .before .before .before .before .before .before .before .before .before .before .before .height .result) (c .before .before .before .before .before .before .before .before .before .before .before .before .before .before .before .before .before .before .before .before .before .before .centre-at .result) (c .before .before .before .before .before .before .before .before .before .before .before .before .before .before .before .before .before .before .before .before .before .centre-at2 .result)
-              (c .before .before .before .before .before .before .before .before .before .before .before .before .before .before .before .before .width .ensures .0) (c .before .before .before .before .before .before .before .before .before .before .before .before .before .before .before .height .ensures .0) (c .before .before .before .before .before .before .before .before .before .before .before .before .before .before .before .before .before .before .before .before .before .before .centre-at .ensures) (c .before .before .before .before .before .before .before .before .before .before .before .before .before .before .before .before .before .before .before .before .before .centre-at2 .ensures) (c .before .before .before .before .before .before .before .before .before .before .before .route .ensures .0) so eo,
+              (c .before .before .before .before .before .before .before .before .before .before .before .before .before .before .before .before .width .ensures .0) (c .before .before .before .before .before .before .before .before .before .before .before .before .before .before .before .height .ensures .0) (c .before .before .before .before .before .before .before .before .before .before .before .before .before .before .before .before .before .before .before .before .before .before .centre-at .ensures .0) (c .before .before .before .before .before .before .before .before .before .before .before .before .before .before .before .before .before .before .before .before .before .centre-at2 .ensures .0) (c .before .before .before .before .before .before .before .before .before .before .before .route .ensures .0) so eo,
         ),
       ),
     )

@@ -1,10 +1,11 @@
 -- `rows::kept_points` meets its contract: the sum of the routes passed, each below 2^32.
 use mathlib.Core.Path.{_≡_, refl, sym, _∙_, ap}
 use Prim.Native.Nat.{ℕ, _+_, _-_, _*_, _≤_}
+use native.Mathlib.Numerals.{add-one}
 use native.Mathlib.Omega.{arith}
 use lib.ListN.{length, take}
 use Rattle.laws.specs.Lists.{total}
-use Rattle.rows.proofs.Stores.{total-more}
+use Rattle.calls.proofs.Whole.{total-suc}
 use Rattle.rows.proofs.kept_points.Statement.{statement}
 use Rattle.rows.proofs.kept_points.Tie as tie
 
@@ -40,8 +41,8 @@ loop-again : tie.Need-loop-again Inv-loop μ-loop
 loop-again c = (
   omega arith,
   omega (arith, c .index .ensures .1),
-  (let e = total-more (c .before .before .before .args .t1) (c .before .before .loop .i) (omega (arith, c .before .before .before .good .0 .1 .0 .1)) in
-      let f = c .index .ensures .0 in omega arith),
+  (let e = total-suc (c .before .before .before .args .t1) (c .before .before .loop .i) (omega (arith, c .before .before .before .good .0 .1 .0 .1)) in
+      let f = c .index .ensures .0 in rw (add-one (c .before .before .loop .i)) (omega arith)),
 )
 
 returns : tie.Need-returns Inv-loop μ-loop

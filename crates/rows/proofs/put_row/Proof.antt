@@ -1,15 +1,16 @@
--- `rows::put_row` meets its contract: the entries passed are stored.
-use mathlib.Core.Path.{_≡_, refl, sym, _∙_, ap}
-use Prim.Native.Nat.{_+_, _-_, _*_, _≤_}
+-- `rows::put_row` meets its contract: the loop writes the row's entry at each index in turn, from the row's place on.
+use mathlib.Core.Path.{refl, _∙_}
+use Prim.Native.Nat.{ℕ, _-_}
 use native.Mathlib.Omega.{arith}
 use borrow.Author.Needs.{needs}
-use lib.ListN.{length, take}
-use Rattle.rows.proofs.Stores.{Copied, copied-begin, copied-next, copied-end}
+use lib.ListN.{getD}
+use Rattle.laws.specs.Fill.{FillingFrom}
+use Rattle.laws.proofs.Fill.{filling-from-none, filling-from-more, filling-from-all, filled-with}
 use Rattle.rows.proofs.put_row.Statement.{statement}
 use Rattle.rows.proofs.put_row.Tie as tie
 
 abbrev Inv-loop : tie.InvT-loop
-Inv-loop area₀ k set at i₀ area i = Copied area₀ at set i area
+Inv-loop area₀ k set at i₀ area i = FillingFrom (λ (j : ℕ). getD set j 0) at 7 area₀ area i
 
 abbrev μ-loop : tie.MeasureT-loop
 μ-loop area₀ k set at i₀ area i = 7 - i
@@ -18,7 +19,7 @@ mul-at : tie.Need-mul-at Inv-loop μ-loop
 mul-at c = omega arith
 
 loop-holds : tie.Need-loop-holds Inv-loop μ-loop
-loop-holds c = copied-begin _ _ _
+loop-holds c = filling-from-none _ _ _ _ (omega arith)
 
 mul-area : tie.Need-mul-area Inv-loop μ-loop
 mul-area c = omega arith
@@ -42,13 +43,15 @@ loop-less : tie.Need-loop-less Inv-loop μ-loop
 loop-less c = omega arith
 
 loop-again : tie.Need-loop-again Inv-loop μ-loop
-loop-again c = copied-next _ _ _ _ _ (c .before .loop .inv) (omega arith) (omega (arith, c .loop-test .taken, c .before .before .good .1 .1 .0 .1 .0 .1))
+loop-again c = filling-from-more _ _ _ _ (omega arith) _ _ _ (c .loop-test .taken) refl (c .before .loop .inv)
 
 same-length : tie.Need-same-length Inv-loop μ-loop
-same-length c = c .before .loop .inv .kept
+same-length c = c .before .loop .inv .size
 
 returns : tie.Need-returns Inv-loop μ-loop
-returns c = copied-end _ _ _ _ _ (c .before .loop .inv) (omega (arith, c .loop-test .left, c .before .before .good .1 .1 .0 .1 .0 .1))
+returns c =
+    filling-from-all _ _ _ _ (omega arith) _ _ (c .loop-test .left) (c .before .loop .inv)
+    ∙ filled-with _ 0 _ 7 _ (c .before .before .good .1 .1 .0 .1 .0 .1)
 
 pub put-row-spec : {M : Type 1} → statement M
 put-row-spec =

@@ -3,22 +3,23 @@ use mathlib.Core.Path.{_≡_, refl, sym, _∙_, ap}
 use Prim.Native.Nat.{ℕ, _+_, _-_, _*_, _≤_}
 use native.Mathlib.Omega.{arith}
 use mathlib.Core.List.{map}
-use lib.ListN.{length, take, length-set}
+use lib.ListN.{getD, take, length-set}
+use Rattle.laws.specs.Fill.{FillingFrom}
+use Rattle.laws.proofs.Fill.{filling-from-none, filling-from-all, filled-with}
 use Rattle.rects.specs.Windows.{positionOf}
 use Rattle.calls.specs.Areas.{numbers}
-use Rattle.rows.proofs.Stores.{Copied, copied-begin, copied-end}
 use Rattle.rows.proofs.Points.{length-points, points-next}
 use Rattle.rows.proofs.route_positions.Statement.{statement}
 use Rattle.rows.proofs.route_positions.Tie as tie
 
 abbrev Inv-loop : tie.InvT-loop
-Inv-loop points₀ at path n window i₀ points i = (i ≤ n) × Copied points₀ at (numbers (map (positionOf window) (take n path))) (2 * i) points
+Inv-loop points₀ at path n window i₀ points i = (i ≤ n) × FillingFrom (λ (j : ℕ). getD (numbers (map (positionOf window) (take n path))) j 0) at (2 * n) points₀ points (2 * i)
 
 abbrev μ-loop : tie.MeasureT-loop
 μ-loop points₀ at path n window i₀ points i = n - i
 
 loop-holds : tie.Need-loop-holds Inv-loop μ-loop
-loop-holds c = (omega arith, copied-begin _ _ _)
+loop-holds c = (omega arith, filling-from-none _ _ _ _ (omega arith))
 
 mul-position-of : tie.Need-mul-position-of Inv-loop μ-loop
 mul-position-of c = omega arith
@@ -40,7 +41,7 @@ mul-points-2 : tie.Need-mul-points-2 Inv-loop μ-loop
 mul-points-2 c = omega arith
 
 slice-write-points : tie.Need-slice-write-points Inv-loop μ-loop
-slice-write-points c = let k = c .before .before .before .loop .inv .1 .kept in omega (arith, c .before .before .before .before .before .before .pre .1 .0 .0)
+slice-write-points c = let k = c .before .before .before .loop .inv .1 .size in omega (arith, c .before .before .before .before .before .before .pre .1 .0 .0)
 
 mul-points-3 : tie.Need-mul-points-3 Inv-loop μ-loop
 mul-points-3 c = omega arith
@@ -55,7 +56,7 @@ mul-points-4 : tie.Need-mul-points-4 Inv-loop μ-loop
 mul-points-4 c = omega arith
 
 slice-write-points-2 : tie.Need-slice-write-points-2 Inv-loop μ-loop
-slice-write-points-2 c = let k = c .before .before .before .loop .inv .1 .kept in simp length-set (omega (arith, c .before .before .before .before .before .before .pre .1 .0 .0))
+slice-write-points-2 c = let k = c .before .before .before .loop .inv .1 .size in simp length-set (omega (arith, c .before .before .before .before .before .before .pre .1 .0 .0))
 
 add-i : tie.Need-add-i Inv-loop μ-loop
 add-i c = omega arith
@@ -66,17 +67,18 @@ loop-less c = omega arith
 loop-again : tie.Need-loop-again Inv-loop μ-loop
 loop-again c = (
   omega arith,
-  points-next _ _ _ (c .before .before .before .before .before .before .pre .1 .0 .1) _ _ (c .before .before .before .loop .i) _ (c .position-of .result) (c .position-of .ensures)
+  points-next _ _ _ (c .before .before .before .before .before .before .pre .1 .0 .1) _ _ _ (c .before .before .before .loop .i) (c .position-of .result) (c .position-of .ensures)
       (c .before .before .before .before .before .before .pre .1 .0 .0) (c .before .before .loop-test .taken) (c .before .before .before .loop .inv .1),
 )
 
 same-length : tie.Need-same-length Inv-loop μ-loop
-same-length c = c .before .loop .inv .1 .kept
+same-length c = c .before .loop .inv .1 .size
 
 returns : tie.Need-returns Inv-loop μ-loop
 returns c =
-    copied-end _ _ _ _ _ (c .before .loop .inv .1)
-    (omega (arith, length-points (c .before .before .before .before .args .window) (c .before .before .before .before .args .path .now) (c .before .before .before .before .args .n) (c .before .before .before .before .pre .1 .0 .1)))
+    let entry = c .before .before .before .before in
+    filling-from-all _ _ _ _ (entry .pre .1 .0 .0) _ _ (omega arith) (c .before .loop .inv .1)
+    ∙ filled-with _ 0 _ _ _ (length-points (entry .args .window) (entry .args .path .now) (entry .args .n) (entry .pre .1 .0 .1))
 
 pub route-positions-spec : {M : Type 1} → statement M
 route-positions-spec =

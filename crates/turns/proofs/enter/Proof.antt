@@ -3,7 +3,7 @@ use borrow.Author.Needs.{needs}
 use native.Mathlib.Omega.{arith}
 use Prim.Native.Nat.{ℕ, suc, _+_, _-_, _*_, _≤_, _<_}
 use mathlib.Core.Path.{_≡_, refl, sym, _∙_, ap}
-use Rattle.rows.specs.Lay.{over}
+use Rattle.laws.specs.Fill.{over}
 use Rattle.turns.proofs.enter.Statement.{statement}
 use Rattle.turns.proofs.enter.Tie as tie
 

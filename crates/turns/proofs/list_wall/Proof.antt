@@ -5,8 +5,8 @@ use Prim.Native.Nat.{ℕ, suc, _+_, _-_, _*_, _≤_, _<_}
 use mathlib.Core.Path.{_≡_, refl, sym, _∙_, ap}
 use lib.ListN.{set, take}
 use Rattle.laws.specs.Lists.{total}
+use Rattle.laws.specs.Fill.{over}
 use Rattle.model.specs.declared.Record.{Record}
-use Rattle.rows.specs.Lay.{over}
 use Rattle.calls.specs.Areas.{numbers}
 use Rattle.turns.proofs.list_wall.Statement.{statement}
 use Rattle.turns.proofs.list_wall.Tie as tie

@@ -4,8 +4,8 @@ use Prim.Native.Nat.{ℕ, _+_, _-_, _*_}
 use mathlib.Core.Path.{_≡_, ap, _∙_}
 use native.Mathlib.Omega.{arith}
 use lib.ListN.{getD, set}
+use Rattle.laws.specs.Fill.{zeros, over}
 use Rattle.model.specs.declared.Record.{Record}
-use Rattle.rows.specs.Lay.{zeros, over}
 use Rattle.turns.proofs.pop.Statement.{statement}
 use Rattle.turns.proofs.pop.Tie as tie
 
@@ -37,11 +37,11 @@ element-copy-out-index c = search needs
 index-requires-2 : tie.Need-index-requires-2
 index-requires-2 c κs = search needs
 
-mul-clear-at : tie.Need-mul-clear-at
-mul-clear-at c = let e = ap (λ (k : ℕ). k * c .before .before .before .before .before .args .places) (c .before .before .before .index .ensures .0) in omega arith
+mul-clear-u16-from : tie.Need-mul-clear-u16-from
+mul-clear-u16-from c = let e = ap (λ (k : ℕ). k * c .before .before .before .before .before .args .places) (c .before .before .before .index .ensures .0) in omega arith
 
-clear-at-requires : tie.Need-clear-at-requires
-clear-at-requires c κs =
+clear-u16-from-requires : tie.Need-clear-u16-from-requires
+clear-u16-from-requires c κs =
     let e = ap (λ (k : ℕ). k * c .before .before .before .before .before .args .places + getD (c .before .before .before .before .before .args .rec .lengths) k 0) (c .before .before .before .index .ensures .0) in
     omega (arith, c .before .index2 .ensures .0)
 
@@ -67,7 +67,7 @@ returns : tie.Need-returns
 unfolding popped
 returns c = (
   ap (popped (c .before .before .before .before .before .before .before .before .args .rec)) (c .before .before .before .before .before .before .index .ensures .0),
-  c .before .before .clear-at .ensures
+  c .before .before .clear-u16-from .ensures
       ∙ ap (λ (m : ℕ). over (c .before .before .before .before .before .before .before .before .args .lists .now) (c .before .before .before .before .before .before .index .result * c .before .before .before .before .before .before .before .before .args .places) (zeros m)) (c .before .before .before .before .index2 .ensures .0)
       ∙ ap (λ (k : ℕ). over (c .before .before .before .before .before .before .before .before .args .lists .now) (k * c .before .before .before .before .before .before .before .before .args .places) (zeros (getD (c .before .before .before .before .before .before .before .before .args .rec .lengths) k 0))) (c .before .before .before .before .before .before .index .ensures .0),
 )
@@ -81,8 +81,8 @@ pop-spec =
     mul-index
     element-copy-out-index
     index-requires-2
-    mul-clear-at
-    clear-at-requires
+    mul-clear-u16-from
+    clear-u16-from-requires
     sub-out
     mul-out
     element-write-out

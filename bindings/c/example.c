@@ -1,0 +1,102 @@
+/* A gap of six pixels in which posts may stand. The planner looks for the sets of posts that keep a mover of three pixels out and
+ * let one of a single pixel pass, and prints each with the way past it.
+ *
+ *     cc -std=c11 -I bindings bindings/c/example.c target/staticlib/libwalls_c.a -o example && ./example
+ */
+#include <inttypes.h>
+#include <stdio.h>
+#include <stdlib.h>
+
+#include "walls.h"
+
+/* The parameter blocks of walls.h, written once. */
+#define WINDOW 0, 0, 7, 6
+#define ENDS 1, 2, 5, 2
+#define BLOCK 1, 1, 1, 1
+#define ALLOW 0, 0, 0, 0
+#define QUERY WINDOW, ENDS, BLOCK, 1, ALLOW
+#define STATES 100
+#define RESULTS 32
+#define LIMITS STATES, RESULTS
+#define PLACES HITROVZEN_ARRAY(groups), HITROVZEN_ARRAY(numbers), HITROVZEN_ARRAY(edges)
+#define BASES block_base, centres, allow_base, centres
+#define WORK counts, counts_len, map, centres, queue, centres, predecessors, centres, route, centres
+#define STORE lists, lists_len, visited, visited_len, layouts, layouts_len, points, points_len
+
+/* One walkable cell and no obstacles. */
+static const uint8_t cells[] = {1};
+static const int32_t obstacles[] = {0};
+
+/* Four posts of one group, of which two may stand. Footprint and collision rectangle of each are the same. */
+static const uint32_t groups[] = {2};
+static const uint32_t numbers[4 * HITROVZEN_NUMBERS];
+static const int32_t edges[] = {
+    3, 0, 4, 5, 3, 0, 4, 5,
+    3, 1, 4, 6, 3, 1, 4, 6,
+    3, 0, 4, 2, 3, 0, 4, 2,
+    3, 3, 4, 6, 3, 3, 4, 6,
+};
+
+static void *zeros(size_t length, size_t size) {
+    void *area = calloc(length, size);
+    if (area == NULL) {
+        fprintf(stderr, "no memory\n");
+        exit(1);
+    }
+    return area;
+}
+
+/* Ends the program where a call was refused. */
+static void accepted(const char *call, uint32_t answer) {
+    if (answer == HITROVZEN_ACCEPTED) return;
+    fprintf(stderr, "%s: refused with %" PRIu32 "\n", call, answer);
+    exit(1);
+}
+
+int main(void) {
+    size_t centres = hitrovzen_centres(WINDOW);
+    size_t counts_len = hitrovzen_counts(WINDOW);
+    size_t lists_len = hitrovzen_lists(4);
+    size_t visited_len = hitrovzen_visited(STATES);
+    size_t layouts_len = hitrovzen_layouts(RESULTS);
+    size_t points_len = hitrovzen_points(RESULTS, centres);
+
+    uint8_t *block_base = zeros(centres, sizeof *block_base), *allow_base = zeros(centres, sizeof *allow_base);
+    int32_t *counts = zeros(counts_len, sizeof *counts);
+    uint8_t *map = zeros(centres, sizeof *map);
+    uint32_t *queue = zeros(centres, sizeof *queue), *predecessors = zeros(centres, sizeof *predecessors);
+    uint32_t *route = zeros(centres, sizeof *route);
+    uint16_t *lists = zeros(lists_len, sizeof *lists), *visited = zeros(visited_len, sizeof *visited);
+    uint16_t *layouts = zeros(layouts_len, sizeof *layouts);
+    uint32_t *points = zeros(points_len, sizeof *points);
+    uint32_t record[HITROVZEN_RECORD] = {0};
+    uint32_t index;
+
+    accepted("prepare block", hitrovzen_prepare(1, 1, HITROVZEN_ARRAY(cells), obstacles, 0, WINDOW, ENDS, BLOCK, block_base, centres, WORK));
+    accepted("prepare allow", hitrovzen_prepare(1, 1, HITROVZEN_ARRAY(cells), obstacles, 0, WINDOW, ENDS, ALLOW, allow_base, centres, WORK));
+    accepted("begin", hitrovzen_begin(QUERY, LIMITS, PLACES, BASES, HITROVZEN_ARRAY(record), WORK, STORE, &index));
+    while (record[HITROVZEN_REASON] == HITROVZEN_RUNNING)
+        accepted("step", hitrovzen_step(QUERY, LIMITS, PLACES, BASES, HITROVZEN_ARRAY(record), 2, WORK, STORE, &index));
+
+    printf("reason %" PRIu32 ", %" PRIu32 " sets evaluated\n", record[HITROVZEN_REASON], record[HITROVZEN_EVALUATIONS]);
+    for (uint32_t k = 0; k < record[HITROVZEN_LAYOUTS]; k++) {
+        const uint16_t *row = layouts + HITROVZEN_ROW * k;
+        printf("wall %" PRIu32 ": posts", k);
+        for (uint16_t i = 1; i <= row[0]; i++) printf(" %u", (unsigned)row[i]);
+
+        uint32_t first, count;
+        accepted("read", hitrovzen_read(QUERY, LIMITS, PLACES, BASES, HITROVZEN_ARRAY(record), k, STORE, &index, &first, &count));
+        printf("; the way past:");
+        for (uint32_t i = first; i < first + count; i++) printf(" (%" PRIu32 " %" PRIu32 ")", points[2 * i], points[2 * i + 1]);
+        printf("\n");
+    }
+
+    uint16_t selection[] = {0};
+    uint32_t verdict, ground;
+    accepted("judge", hitrovzen_judge(QUERY, PLACES, BASES, HITROVZEN_ARRAY(selection), WORK, &index, &verdict, &ground));
+    printf("post 0 alone: %s, ground left %" PRIu32 "\n", verdict == HITROVZEN_WALL ? "a wall" : "no wall", ground);
+
+    void *areas[] = {block_base, allow_base, counts, map, queue, predecessors, route, lists, visited, layouts, points};
+    for (size_t i = 0; i < sizeof areas / sizeof *areas; i++) free(areas[i]);
+    return 0;
+}

@@ -1,0 +1,248 @@
+/* What walls.h says of lent areas, tried: how long each must be, that nothing past that is written, and what refusals leave. The case
+ * is that of example.c. Prints how many statements held, and each that did not. */
+#include <inttypes.h>
+#include <stdio.h>
+#include <string.h>
+
+#include "walls.h"
+
+#define WINDOW 0, 0, 7, 6
+#define ENDS 1, 2, 5, 2
+#define BLOCK 1, 1, 1, 1
+#define ALLOW 0, 0, 0, 0
+#define QUERY WINDOW, ENDS, BLOCK, 1, ALLOW
+#define RESULTS 5
+#define PLACES HITROVZEN_ARRAY(groups), HITROVZEN_ARRAY(numbers), HITROVZEN_ARRAY(edges)
+
+static const uint8_t cells[] = {1};
+static const int32_t obstacles[] = {0};
+static const uint32_t groups[] = {2};
+static uint32_t numbers[4 * HITROVZEN_NUMBERS];
+static const int32_t edges[] = {
+    3, 0, 4, 5, 3, 0, 4, 5,
+    3, 1, 4, 6, 3, 1, 4, 6,
+    3, 0, 4, 2, 3, 0, 4, 2,
+    3, 3, 4, 6, 3, 3, 4, 6,
+};
+
+/* The areas, each with SPARE elements more than are needed. */
+enum { SPARE = 3, CENTRES = 42, STATES = 20 };
+static uint8_t block_base[CENTRES + SPARE], allow_base[CENTRES + SPARE], map[CENTRES + SPARE];
+static int32_t counts[8 * 7 + SPARE];
+static uint32_t queue[CENTRES + SPARE], predecessors[CENTRES + SPARE], route[CENTRES + SPARE];
+static uint32_t record[HITROVZEN_RECORD + SPARE], points[2 * RESULTS * CENTRES + SPARE];
+static uint16_t lists[6 * 4 + SPARE], visited[7 * STATES + SPARE], layouts[7 * RESULTS + SPARE];
+
+enum { BLOCK_BASE, ALLOW_BASE, RECORD, COUNTS, MAP, QUEUE, PREDECESSORS, ROUTE, LISTS, VISITED, LAYOUTS, POINTS, AREAS };
+enum { PREPARE = 1, BEGIN = 2, STEP = 4, READ = 8, JUDGE = 16 };
+
+/* Which calls take an area, and whether it is a working area. */
+static const struct {
+    const char *name;
+    void *start;
+    size_t element, length;
+    int taken, working;
+} areas[AREAS] = {
+    {"block_base", block_base, sizeof *block_base, sizeof block_base / sizeof *block_base, PREPARE | BEGIN | STEP | READ | JUDGE, 0},
+    {"allow_base", allow_base, sizeof *allow_base, sizeof allow_base / sizeof *allow_base, BEGIN | STEP | READ | JUDGE, 0},
+    {"record", record, sizeof *record, sizeof record / sizeof *record, BEGIN | STEP | READ, 0},
+    {"counts", counts, sizeof *counts, sizeof counts / sizeof *counts, PREPARE | BEGIN | STEP | JUDGE, 1},
+    {"map", map, sizeof *map, sizeof map / sizeof *map, PREPARE | BEGIN | STEP | JUDGE, 1},
+    {"queue", queue, sizeof *queue, sizeof queue / sizeof *queue, PREPARE | BEGIN | STEP | JUDGE, 1},
+    {"predecessors", predecessors, sizeof *predecessors, sizeof predecessors / sizeof *predecessors, PREPARE | BEGIN | STEP | JUDGE, 1},
+    {"route", route, sizeof *route, sizeof route / sizeof *route, PREPARE | BEGIN | STEP | JUDGE, 1},
+    {"lists", lists, sizeof *lists, sizeof lists / sizeof *lists, BEGIN | STEP | READ, 0},
+    {"visited", visited, sizeof *visited, sizeof visited / sizeof *visited, BEGIN | STEP | READ, 0},
+    {"layouts", layouts, sizeof *layouts, sizeof layouts / sizeof *layouts, BEGIN | STEP | READ, 0},
+    {"points", points, sizeof *points, sizeof points / sizeof *points, BEGIN | STEP | READ, 0},
+};
+
+/* The lengths that the next calls are told. */
+static size_t told[AREAS];
+static uint32_t states = STATES, index_, first, count, verdict, ground;
+static uint16_t selection[] = {0};
+
+#define BASES block_base, told[BLOCK_BASE], allow_base, told[ALLOW_BASE]
+#define WORK counts, told[COUNTS], map, told[MAP], queue, told[QUEUE], predecessors, told[PREDECESSORS], route, told[ROUTE]
+#define STORE lists, told[LISTS], visited, told[VISITED], layouts, told[LAYOUTS], points, told[POINTS]
+
+static uint32_t prepare(void) {
+    return hitrovzen_prepare(1, 1, HITROVZEN_ARRAY(cells), obstacles, 0, WINDOW, ENDS, BLOCK, block_base, told[BLOCK_BASE], WORK);
+}
+
+static uint32_t prepare_allow(void) {
+    return hitrovzen_prepare(1, 1, HITROVZEN_ARRAY(cells), obstacles, 0, WINDOW, ENDS, ALLOW, allow_base, told[ALLOW_BASE], WORK);
+}
+
+static uint32_t begin(void) {
+    return hitrovzen_begin(QUERY, states, RESULTS, PLACES, BASES, record, told[RECORD], WORK, STORE, &index_);
+}
+
+static uint32_t step(uint32_t n) {
+    return hitrovzen_step(QUERY, states, RESULTS, PLACES, BASES, record, told[RECORD], n, WORK, STORE, &index_);
+}
+
+static uint32_t read(uint32_t k) {
+    first = count = 99;
+    return hitrovzen_read(QUERY, states, RESULTS, PLACES, BASES, record, told[RECORD], k, STORE, &index_, &first, &count);
+}
+
+static uint32_t judge(void) {
+    verdict = ground = 99;
+    return hitrovzen_judge(QUERY, PLACES, BASES, HITROVZEN_ARRAY(selection), WORK, &index_, &verdict, &ground);
+}
+
+static uint32_t call(int which) {
+    switch (which) {
+    case PREPARE: return prepare();
+    case BEGIN: return begin();
+    case STEP: return step(1);
+    case READ: return read(0);
+    default: return judge();
+    }
+}
+
+static unsigned held, failed;
+
+static void holds(int truth, const char *statement, const char *name) {
+    if (truth) {
+        held++;
+    } else {
+        failed++;
+        printf("not so: %s (%s)\n", statement, name);
+    }
+}
+
+static void whole(void) {
+    for (int a = 0; a < AREAS; a++) told[a] = areas[a].length;
+}
+
+static unsigned char kept[AREAS][2048];
+
+static void keep(void) {
+    for (int a = 0; a < AREAS; a++) memcpy(kept[a], areas[a].start, areas[a].length * areas[a].element);
+}
+
+static int as_kept(int a) { return memcmp(kept[a], areas[a].start, areas[a].length * areas[a].element) == 0; }
+
+static void all_as_kept(const char *statement) {
+    for (int a = 0; a < AREAS; a++) holds(as_kept(a), statement, areas[a].name);
+}
+
+/* Whether the bytes of an area, the spare ones or those before, are all equal to one. */
+static int filled(int a, int spare, unsigned char byte) {
+    const unsigned char *bytes = areas[a].start;
+    size_t end = areas[a].length * areas[a].element, middle = (areas[a].length - SPARE) * areas[a].element;
+    for (size_t i = spare ? middle : 0; i < (spare ? end : middle); i++)
+        if (bytes[i] != byte) return 0;
+    return 1;
+}
+
+static void work_is_zero(const char *statement) {
+    for (int a = 0; a < AREAS; a++)
+        if (areas[a].working) holds(filled(a, 0, 0), statement, areas[a].name);
+}
+
+static void soil(int working) {
+    for (int a = 0; a < AREAS; a++)
+        if (areas[a].working == working) memset(areas[a].start, 0xA5, areas[a].length * areas[a].element);
+}
+
+static void lengths(void) {
+    size_t centres = hitrovzen_centres(WINDOW);
+    size_t needed[AREAS] = {centres, centres, HITROVZEN_RECORD, hitrovzen_counts(WINDOW), centres, centres, centres, centres,
+                            hitrovzen_lists(4), hitrovzen_visited(STATES), hitrovzen_layouts(RESULTS), hitrovzen_points(RESULTS, centres)};
+    for (int a = 0; a < AREAS; a++) holds(needed[a] + SPARE == areas[a].length, "the header tells the length", areas[a].name);
+    holds(hitrovzen_centres(0, 0, 1024, 1024) == HITROVZEN_MOST_CENTRES, "1,024 by 1,024 centres are taken", "centres");
+    holds(hitrovzen_centres(0, 0, 1024, 1025) == 0, "1,024 by 1,025 centres are not", "centres");
+    holds(hitrovzen_centres(INT32_MIN, 0, INT32_MAX, 1) == 0 && hitrovzen_centres(0, 0, INT32_MAX, INT32_MAX) == 0, "nor wide ones", "centres");
+    holds(hitrovzen_points(32, HITROVZEN_MOST_CENTRES) == 2 * HITROVZEN_MOST_POINTS, "1,000,000 points at most", "points");
+    holds(hitrovzen_visited(100001) == 0 && hitrovzen_layouts(33) == 0, "no rows for limits that are refused", "limits");
+}
+
+/* A search on soiled areas: what is past the needed lengths stays, working areas are zero. */
+static void search(void) {
+    soil(0);
+    soil(1);
+    holds(prepare() == 0 && prepare_allow() == 0, "prepare is accepted", "prepare");
+    work_is_zero("working areas are zero after prepare");
+    soil(1);
+    holds(begin() == 0 && record[HITROVZEN_REASON] == HITROVZEN_RUNNING && index_ == 0, "begin is accepted", "begin");
+    work_is_zero("working areas are zero after begin");
+    soil(1);
+    holds(step(2) == 0 && record[HITROVZEN_EVALUATIONS] == 2, "a step by two evaluates two sets", "step");
+    work_is_zero("working areas are zero after step");
+    holds(step(STATES) == 0 && record[HITROVZEN_REASON] == HITROVZEN_EXHAUSTED, "the search is exhausted", "step");
+    holds(record[HITROVZEN_LAYOUTS] == 3 && layouts[0] == 1 && layouts[1] == 0, "three walls, the first of placement 0", "layouts");
+    soil(1);
+    holds(judge() == 0 && verdict == HITROVZEN_WALL && ground == 15, "placement 0 is a wall", "judge");
+    work_is_zero("working areas are zero after judging");
+    for (int a = 0; a < AREAS; a++) holds(filled(a, 1, 0xA5), "nothing past the needed length is written", areas[a].name);
+    for (int a = 0; a < AREAS; a++) told[a] = areas[a].length - SPARE;
+    keep();
+    holds(step(1) == 0 && read(0) == 0 && judge() == 0, "areas of the needed lengths are long enough", "all");
+    holds(read(1) == 0 && first == record[HITROVZEN_ROUTE_LENGTHS] && count == record[HITROVZEN_ROUTE_LENGTHS + 1], "routes follow each other", "read");
+    holds(points[2 * first] == 1 && points[2 * first + 1] == 2, "a route begins at the start", "read");
+    holds(points[2 * (first + count) - 2] == 5 && points[2 * (first + count) - 1] == 2, "and ends at the end", "read");
+    all_as_kept("a stopped search stays as it is");
+    whole();
+}
+
+/* Each area one element too short, in turn: 6 from the calls that take it, which write nothing. */
+static void too_short(void) {
+    for (int a = 0; a < AREAS; a++) {
+        for (int which = PREPARE; which <= JUDGE; which *= 2) {
+            if (!(areas[a].taken & which)) continue;
+            soil(1);
+            keep();
+            told[a] = areas[a].length - SPARE - 1;
+            holds(call(which) == HITROVZEN_AREA_TOO_SHORT, "an area that is too short is refused", areas[a].name);
+            told[a] = 0;
+            holds(call(which) == HITROVZEN_AREA_TOO_SHORT, "an empty area is refused", areas[a].name);
+            whole();
+            all_as_kept("6 writes nothing");
+        }
+    }
+}
+
+static void refusals(void) {
+    soil(1);
+    keep();
+    states = 0;
+    holds(begin() == HITROVZEN_STATE_LIMIT_INVALID && step(1) == HITROVZEN_STATE_LIMIT_INVALID, "no states are refused", "limits");
+    states = STATES;
+    holds(read(3) == HITROVZEN_SELECTION_INVALID && first == 0 && count == 0, "no layout has the number 3", "read");
+    selection[0] = 4;
+    holds(judge() == HITROVZEN_SELECTION_INVALID && verdict == 0 && ground == 0, "placement 4 is not there", "judge");
+    selection[0] = 0;
+    all_as_kept("11 and 17 write nothing");
+
+    record[HITROVZEN_PENDING] = 2;
+    keep();
+    holds(step(1) == HITROVZEN_RECORD_INVALID && read(0) == HITROVZEN_RECORD_INVALID, "pending is 0 or 1", "record");
+    all_as_kept("16 writes nothing");
+    record[HITROVZEN_PENDING] = 0;
+
+    numbers[2 * HITROVZEN_NUMBERS] = 6;
+    keep();
+    holds(step(1) == HITROVZEN_PLACEMENT_INVALID && index_ == 2, "a refused placement is named", "step");
+    holds(read(0) == HITROVZEN_PLACEMENT_INVALID && index_ == 2 && first == 0 && count == 0, "a refused placement is named", "read");
+    holds(judge() == HITROVZEN_PLACEMENT_INVALID && index_ == 2 && verdict == 0 && ground == 0, "a refused placement is named", "judge");
+    all_as_kept("15 writes nothing in step, read and judge");
+    holds(begin() == HITROVZEN_PLACEMENT_INVALID && index_ == 2, "a refused placement is named", "begin");
+    work_is_zero("15 leaves working areas zero in begin");
+    for (int a = 0; a < AREAS; a++)
+        if (!areas[a].working) holds(as_kept(a), "15 leaves record and store as they were in begin", areas[a].name);
+    numbers[2 * HITROVZEN_NUMBERS] = 0;
+    holds(step(1) == 0 && index_ == 0, "the search goes on after refusals", "step");
+}
+
+int main(void) {
+    whole();
+    lengths();
+    search();
+    too_short();
+    refusals();
+    printf("%u statements held, %u did not\n", held, failed);
+    return failed != 0;
+}

@@ -1,0 +1,241 @@
+//! What a planner hands in. None of these values is checked here: a call refuses what it does not take.
+
+/// A rectangle of pixels. Right and bottom are exclusive.
+#[derive(Clone, Copy, Debug, PartialEq, Eq, Hash)]
+pub struct Rect {
+    /// First column.
+    pub left: i32,
+    /// First row.
+    pub top: i32,
+    /// One past the last column.
+    pub right: i32,
+    /// One past the last row.
+    pub bottom: i32,
+}
+
+impl Rect {
+    /// A rectangle of these edges.
+    pub const fn new(left: i32, top: i32, right: i32, bottom: i32) -> Self {
+        Self {
+            left,
+            top,
+            right,
+            bottom,
+        }
+    }
+
+    pub(crate) const fn edges(self) -> [i32; 4] {
+        [self.left, self.top, self.right, self.bottom]
+    }
+}
+
+/// How far a mover reaches from its centre, 0 to 256 each way. All zero is a mover of one pixel.
+#[derive(Clone, Copy, Debug, Default, PartialEq, Eq, Hash)]
+pub struct Bounds {
+    /// Pixels to the left of the centre.
+    pub left: u32,
+    /// Pixels above the centre.
+    pub top: u32,
+    /// Pixels to the right of the centre.
+    pub right: u32,
+    /// Pixels below the centre.
+    pub bottom: u32,
+}
+
+impl Bounds {
+    /// The bounds of these four reaches.
+    pub const fn new(left: u32, top: u32, right: u32, bottom: u32) -> Self {
+        Self {
+            left,
+            top,
+            right,
+            bottom,
+        }
+    }
+}
+
+/// A pixel of the map.
+#[derive(Clone, Copy, Debug, Default, PartialEq, Eq, PartialOrd, Ord, Hash)]
+pub struct Position {
+    /// Column, from the map's left edge.
+    pub x: u32,
+    /// Row, from the map's top edge.
+    pub y: u32,
+}
+
+impl Position {
+    /// The pixel in column `x` and row `y`.
+    pub const fn new(x: u32, y: u32) -> Self {
+        Self { x, y }
+    }
+}
+
+/// A tile of the map. It is carried along and read by no call.
+#[derive(Clone, Copy, Debug, Default, PartialEq, Eq, Hash)]
+pub struct Tile {
+    /// Column.
+    pub x: u32,
+    /// Row.
+    pub y: u32,
+}
+
+/// A building that may be placed. Placements are told apart by their index alone.
+#[derive(Clone, Copy, Debug, PartialEq, Eq, Hash)]
+pub struct Placement {
+    /// Which kind of building this is, 0 to 5. Carried along.
+    pub spec: u32,
+    /// The group whose slots it takes.
+    pub group: u32,
+    /// Where the planner has it. Carried along.
+    pub tile: Tile,
+    /// The ground it needs: inside the window, and shared with no other building of a wall.
+    pub footprint: Rect,
+    /// What keeps movers off. It may lie anywhere.
+    pub collision: Rect,
+}
+
+impl Placement {
+    /// A building whose collision rectangle is its footprint, with spec and tile zero.
+    pub const fn solid(group: u32, footprint: Rect) -> Self {
+        Self {
+            spec: 0,
+            group,
+            tile: Tile { x: 0, y: 0 },
+            footprint,
+            collision: footprint,
+        }
+    }
+}
+
+/// The terrain: walk cells of 8 × 8 pixels, and obstacles.
+#[derive(Clone, Debug, PartialEq, Eq)]
+pub struct Map {
+    /// Cells from left to right, 1 to 1,024.
+    pub across: u32,
+    /// Cells from top to bottom, 1 to 1,024.
+    pub down: u32,
+    /// One byte a cell, row by row: 1 walkable, 0 not.
+    pub cells: Vec<u8>,
+    /// Rectangles that keep movers off, at most 4,096, none empty.
+    pub obstacles: Vec<Rect>,
+}
+
+impl Map {
+    /// A map of these cells, without obstacles.
+    pub fn new(across: u32, down: u32, cells: Vec<u8>) -> Self {
+        Self {
+            across,
+            down,
+            cells,
+            obstacles: Vec::new(),
+        }
+    }
+
+    /// A map whose cells are all walkable. It has no cells, and is refused with 1, where a side is not 1 to 1,024.
+    pub fn open(across: u32, down: u32) -> Self {
+        let sides = 1..=1_024;
+        let count = if sides.contains(&across) && sides.contains(&down) {
+            across as usize * down as usize
+        } else {
+            0
+        };
+        Self::new(across, down, vec![1; count])
+    }
+
+    /// A map drawn in rows of equal length: `.` is a walkable cell, `#` one that is not. Any other character gives a cell that is
+    /// refused with 1, as rows of unequal length are.
+    ///
+    /// ```
+    /// use hitrovzen::Map;
+    /// let map = Map::drawn(&["..#", "..."]);
+    /// assert_eq!((map.across, map.down, map.cells), (3, 2, vec![1, 1, 0, 1, 1, 1]));
+    /// ```
+    pub fn drawn(rows: &[&str]) -> Self {
+        let cell = |character| match character {
+            '#' => 0,
+            '.' => 1,
+            _ => 2,
+        };
+        let across = rows.first().map_or(0, |row| row.chars().count());
+        let cells = if rows.iter().all(|row| row.chars().count() == across) {
+            rows.iter().flat_map(|row| row.chars().map(cell)).collect()
+        } else {
+            Vec::new()
+        };
+        let side = |count| u32::try_from(count).unwrap_or(u32::MAX);
+        Self::new(side(across), side(rows.len()), cells)
+    }
+}
+
+/// How far a search may go.
+#[derive(Clone, Copy, Debug, PartialEq, Eq, Hash)]
+pub struct Limits {
+    /// The most sets that may be evaluated, 1 to 100,000.
+    pub states: u32,
+    /// The most layouts that may be listed, 1 to 32.
+    pub results: u32,
+}
+
+impl Limits {
+    /// The widest limits there are: 100,000 states and 32 results.
+    pub const WIDEST: Self = Self {
+        states: 100_000,
+        results: 32,
+    };
+}
+
+/// All that a planner is asked about.
+#[derive(Clone, Debug, PartialEq, Eq)]
+pub struct Plan {
+    /// The terrain.
+    pub map: Map,
+    /// The part of the map that is looked at, in pixels: at most 1,048,576 of them.
+    pub window: Rect,
+    /// Where movers start.
+    pub start: Position,
+    /// Where they want to go.
+    pub end: Position,
+    /// The mover that a wall keeps out.
+    pub block: Bounds,
+    /// The mover that a wall lets pass, if there is one.
+    pub allow: Option<Bounds>,
+    /// How many slots each group has: at most 6 groups, 1 to 6 slots each and at most 6 together.
+    pub groups: Vec<u32>,
+    /// The buildings that may be placed, at most 6,144.
+    pub placements: Vec<Placement>,
+}
+
+impl Plan {
+    /// A plan with no allowed mover, no groups and no placements.
+    pub fn new(map: Map, window: Rect, start: Position, end: Position, block: Bounds) -> Self {
+        Self {
+            map,
+            window,
+            start,
+            end,
+            block,
+            allow: None,
+            groups: Vec::new(),
+            placements: Vec::new(),
+        }
+    }
+
+    /// The same plan from end to start. It has the same walls.
+    ///
+    /// ```
+    /// use hitrovzen::{Bounds, Map, Plan, Position, Rect};
+    ///
+    /// let (start, end) = (Position::new(0, 1), Position::new(4, 1));
+    /// let plan = Plan::new(Map::open(1, 1), Rect::new(0, 0, 5, 3), start, end, Bounds::default());
+    /// let back = plan.clone().reversed();
+    /// assert_eq!((back.start, back.end), (end, start));
+    /// assert_eq!(back.reversed(), plan);
+    /// ```
+    pub fn reversed(self) -> Self {
+        Self {
+            start: self.end,
+            end: self.start,
+            ..self
+        }
+    }
+}

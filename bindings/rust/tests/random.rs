@@ -1,0 +1,217 @@
+//! Plans drawn at random: the walls listed are those found by judging every selection, and no input, however wild, ends in anything
+//! but an answer.
+
+use std::collections::BTreeSet;
+
+use hitrovzen::{
+    Bounds, Limits, Map, Placement, Plan, Planner, Position, Reason, Rect, Tile, Verdict,
+};
+
+/// splitmix64
+struct Dice(u64);
+
+impl Dice {
+    fn roll(&mut self) -> u64 {
+        self.0 = self.0.wrapping_add(0x9E37_79B9_7F4A_7C15);
+        let mut z = self.0;
+        z = (z ^ (z >> 30)).wrapping_mul(0xBF58_476D_1CE4_E5B9);
+        z = (z ^ (z >> 27)).wrapping_mul(0x94D0_49BB_1331_11EB);
+        z ^ (z >> 31)
+    }
+
+    fn below(&mut self, n: u64) -> u64 {
+        self.roll() % n
+    }
+
+    fn one_of<T: Copy>(&mut self, values: &[T]) -> T {
+        values[self.below(values.len() as u64) as usize]
+    }
+}
+
+/// A window of at most 8 × 6 centres with at most six placements, most of them columns that stand in the way.
+fn small(dice: &mut Dice) -> Plan {
+    let (width, height) = (5 + dice.below(4) as i32, 3 + dice.below(4) as i32);
+    let reach = |dice: &mut Dice| {
+        let reach = dice.below(2) as u32;
+        Bounds::new(reach, reach, reach, 0)
+    };
+    let mut plan = Plan::new(
+        Map::open(2, 2),
+        Rect::new(1, 1, 1 + width, 1 + height),
+        Position::new(1, 1 + dice.below(height as u64) as u32),
+        Position::new(width as u32, 1 + dice.below(height as u64) as u32),
+        reach(dice),
+    );
+    if dice.below(3) == 0 {
+        plan.allow = Some(reach(dice));
+    }
+    plan.groups = vec![1 + dice.below(3) as u32, 1 + dice.below(2) as u32];
+    for _ in 0..2 + dice.below(5) {
+        let left = 3 + dice.below(width as u64 - 3) as i32;
+        let top = 1 + dice.below(height as u64) as i32;
+        let bottom = top + 1 + dice.below((1 + height - top) as u64) as i32;
+        let group = dice.below(2) as u32;
+        plan.placements.push(Placement::solid(
+            group,
+            Rect::new(left, top, left + 1, bottom),
+        ));
+    }
+    plan
+}
+
+/// Every set of at most six placements that the planner judges to be a wall.
+fn judged(planner: &Planner) -> BTreeSet<Vec<u16>> {
+    let count = planner.plan().placements.len() as u16;
+    (0..1_u32 << count)
+        .map(|set| (0..count).filter(|i| set >> i & 1 == 1).collect::<Vec<_>>())
+        .filter(|set| planner.judge(set).unwrap().verdict == Verdict::Wall)
+        .collect()
+}
+
+fn listed(planner: &Planner) -> (Reason, Vec<Vec<u16>>) {
+    let mut search = planner.search(Limits::WIDEST).unwrap();
+    let reason = search.run().unwrap();
+    for layout in search.layouts() {
+        let route: Vec<Position> = layout.route().unwrap().collect();
+        let plan = planner.plan();
+        let ends = plan.allow.map(|_| (plan.start, plan.end));
+        assert_eq!(route.first().copied().zip(route.last().copied()), ends);
+    }
+    let layouts = search.layouts();
+    let walls = layouts.map(|layout| layout.indexes().to_vec()).collect();
+    (reason, walls)
+}
+
+#[test]
+fn the_walls_listed_are_those_judged() {
+    let mut dice = Dice(20_261_115);
+    let (mut searches, mut walls, mut larger) = (0, 0, 0);
+    for _ in 0..2_000 {
+        let Ok(there) = Planner::new(small(&mut dice)) else {
+            continue;
+        };
+        let (reason, list) = listed(&there);
+        let set: BTreeSet<_> = list.iter().cloned().collect();
+        assert_eq!(set.len(), list.len(), "none is listed twice");
+        assert_eq!(reason, Reason::Exhausted);
+        assert_eq!(set, judged(&there), "{:?}", there.plan());
+
+        let plan = there.into_plan();
+        let ends = (plan.end, plan.start);
+        let back = Planner::new(plan.reversed()).unwrap();
+        assert_eq!((back.plan().start, back.plan().end), ends);
+        let (reason, list) = listed(&back);
+        assert_eq!(reason, Reason::Exhausted);
+        assert_eq!(list.into_iter().collect::<BTreeSet<_>>(), set);
+
+        searches += 1;
+        walls += set.len();
+        larger += set.iter().filter(|wall| wall.len() > 1).count();
+    }
+    assert!(searches > 1_000, "{searches}");
+    assert!(walls > 500, "{walls}");
+    assert!(larger > 100, "{larger}");
+}
+
+/// Fields at the ends of their types and around the bounds of the calls.
+fn wild(dice: &mut Dice) -> Plan {
+    const EDGES: [i32; 11] = [i32::MIN, -1, 0, 1, 2, 3, 5, 8, 1_024, 8_192, i32::MAX];
+    const NUMBERS: [u32; 9] = [0, 1, 2, 4, 6, 7, 256, 257, u32::MAX];
+    let rect = |dice: &mut Dice| {
+        let edges = [(); 4].map(|()| dice.one_of(&EDGES));
+        match dice.below(3) {
+            0 => Rect::new(0, 0, 5, 3),
+            1 => Rect::new(edges[0].min(4), edges[1].min(4), 5, 5),
+            _ => Rect::new(edges[0], edges[1], edges[2], edges[3]),
+        }
+    };
+    let bounds = |dice: &mut Dice| match dice.below(2) {
+        0 => Bounds::default(),
+        _ => Bounds::new(0, dice.one_of(&NUMBERS), 0, dice.one_of(&NUMBERS)),
+    };
+    let position = |dice: &mut Dice| match dice.below(4) {
+        0 => Position::new(dice.one_of(&NUMBERS), dice.one_of(&NUMBERS)),
+        _ => Position::new(dice.below(5) as u32, dice.below(3) as u32),
+    };
+    let map = match dice.below(4) {
+        0 => Map::new(dice.one_of(&NUMBERS), dice.one_of(&NUMBERS), vec![1; 16]),
+        1 => Map::new(4, 4, vec![dice.below(3) as u8; 16]),
+        _ => Map::open(1, 1),
+    };
+    let mut plan = Plan::new(
+        map,
+        rect(dice),
+        position(dice),
+        position(dice),
+        bounds(dice),
+    );
+    for _ in 0..dice.below(6).saturating_sub(4) {
+        let obstacle = match dice.below(2) {
+            0 => Rect::new(2, 0, 3, 8),
+            _ => rect(dice),
+        };
+        plan.map.obstacles.push(obstacle);
+    }
+    if dice.below(3) == 0 {
+        plan.allow = Some(bounds(dice));
+    }
+    for _ in 0..dice.below(3) {
+        plan.groups.push(dice.one_of(&[1, 1, 2, 3, 0, 7, u32::MAX]));
+    }
+    for _ in 0..dice.below(4) {
+        let number = |dice: &mut Dice| dice.one_of(&[0, 0, 0, 1, 6, u32::MAX]);
+        plan.placements.push(Placement {
+            spec: number(dice),
+            group: number(dice),
+            tile: Tile { x: u32::MAX, y: 0 },
+            footprint: rect(dice),
+            collision: rect(dice),
+        });
+    }
+    plan
+}
+
+#[test]
+fn every_call_is_answered() {
+    let mut dice = Dice(65_535);
+    let mut seen = BTreeSet::new();
+    let mut note = |number: u32| {
+        assert!((1..=17).contains(&number));
+        seen.insert(number);
+    };
+    for _ in 0..20_000 {
+        let planner = match Planner::new(wild(&mut dice)) {
+            Ok(planner) => planner,
+            Err(refusal) => {
+                note(refusal.number());
+                continue;
+            }
+        };
+        let selection: Vec<u16> = (0..dice.below(8))
+            .map(|i| dice.one_of(&[i as u16, 0, 1, u16::MAX]))
+            .collect();
+        if let Err(refusal) = planner.judge(&selection) {
+            note(refusal.number());
+        }
+        let limits = Limits {
+            states: dice.one_of(&[0, 1, 2, 100, 100_000, 100_001, u32::MAX]),
+            results: dice.one_of(&[0, 1, 2, 32, 33, u32::MAX]),
+        };
+        let mut search = match planner.search(limits) {
+            Ok(search) => search,
+            Err(refusal) => {
+                note(refusal.number());
+                continue;
+            }
+        };
+        for n in [0, 1, u32::MAX] {
+            search.step(n).expect("a search that began can be stepped");
+        }
+        if let Err(refusal) = search.route(dice.one_of(&[0, 1, u32::MAX])) {
+            note(refusal.number());
+        }
+    }
+    for number in [1, 2, 3, 4, 5, 7, 8, 9, 10, 11, 12, 15, 17] {
+        assert!(seen.contains(&number), "{number} was not met");
+    }
+}

@@ -1,0 +1,239 @@
+//! Times the original search and its port: same inputs, same driver, in turn. A line a case.
+//!
+//! `bench` prints the lines, `bench --markdown` the rows of the table in docs/PERFORMANCE.md. `bench --only TEXT` takes the cases whose name or
+//! window has the text; `bench --only TEXT --port` and `--original` run one side once, for a profiler. `--cpu` takes the processor's time of this
+//! thread in place of the time on the wall: on a machine that does other work too, what it does meanwhile is then left out.
+
+mod clock;
+mod inputs;
+mod measure;
+mod original;
+mod port;
+mod side;
+
+use inputs::{LARGE, MIDDLE, SMALL, Size};
+use judge::{Baselines, Case};
+use measure::{Line, Measured, Work, measure, timed};
+use original::Original;
+use port::Port;
+use side::Buffers;
+
+fn line(
+    name: impl Into<String>,
+    size: Size,
+    case: impl Fn(Size) -> Case + 'static,
+    work: Work,
+    buffers: Buffers,
+) -> Line {
+    Line {
+        name: name.into(),
+        size,
+        case: Box::new(move || case(size)),
+        work,
+        buffers,
+    }
+}
+
+fn steps(evaluations: u32, portion: u32) -> Work {
+    Work::Steps {
+        evaluations,
+        portion,
+        held: None,
+    }
+}
+
+fn portions(portion: u32, evaluations: u32) -> String {
+    if portion == evaluations {
+        "one call".into()
+    } else {
+        format!("portions of {portion}")
+    }
+}
+
+/// How many evaluations a search of some length has: as many as keep a line below twenty seconds.
+fn several(size: Size) -> u32 {
+    match size {
+        SMALL => 1_000,
+        MIDDLE => 200,
+        _ => 20,
+    }
+}
+
+fn at_every_size(size: Size) -> Vec<Line> {
+    let few = several(size);
+    let six = Work::Steps {
+        evaluations: 1,
+        portion: 1,
+        held: Some(inputs::all_six_taken()),
+    };
+    let search = move |size| inputs::search(size, few);
+    let allowing = move |size| inputs::allowing(size, few);
+    let crowded = |size| inputs::crowded(size, 20);
+    let mut lines = vec![
+        line(
+            "prepare",
+            size,
+            inputs::rough,
+            Work::Prepare,
+            Buffers::Cleared,
+        ),
+        line(
+            "prepare",
+            size,
+            inputs::rough,
+            Work::Prepare,
+            Buffers::Rubbish,
+        ),
+        line("begin", size, search, Work::Begin, Buffers::AsLeft),
+        line(
+            "one evaluation",
+            size,
+            search,
+            steps(1, 1),
+            Buffers::Cleared,
+        ),
+        line(
+            "one evaluation",
+            size,
+            search,
+            steps(1, 1),
+            Buffers::Rubbish,
+        ),
+        line(
+            "minimality, six members",
+            size,
+            inputs::barrier,
+            six,
+            Buffers::AsLeft,
+        ),
+        line(
+            "allowed mover",
+            size,
+            allowing,
+            steps(few, few),
+            Buffers::AsLeft,
+        ),
+        line(
+            "6,144 placements, 20 evaluations",
+            size,
+            crowded,
+            steps(20, 20),
+            Buffers::AsLeft,
+        ),
+    ];
+    let portioned: &[u32] = match size {
+        SMALL => &[],
+        MIDDLE => &[few, 100, 1],
+        _ => &[few, 1],
+    };
+    for &portion in portioned {
+        let name = format!("{few} evaluations, {}", portions(portion, few));
+        lines.push(line(
+            name,
+            size,
+            search,
+            steps(few, portion),
+            Buffers::AsLeft,
+        ));
+    }
+    lines
+}
+
+fn many_on_small() -> Vec<Line> {
+    let mut lines = Vec::new();
+    for (words, many) in [("10,000", 10_000), ("100,000", 100_000)] {
+        for portion in [many, 100, 1] {
+            let name = format!("{words} evaluations, {}", portions(portion, many));
+            let search = move |size| inputs::search(size, many);
+            lines.push(line(
+                name,
+                SMALL,
+                search,
+                steps(many, portion),
+                Buffers::AsLeft,
+            ));
+        }
+    }
+    lines
+}
+
+fn window((width, height): Size) -> String {
+    format!("{width} × {height}")
+}
+
+/// What a line did, so that a reader sees what was compared.
+fn done(measured: &Measured) -> String {
+    match &measured.outcome {
+        None => "-".into(),
+        Some(outcome) => format!(
+            "{:?} {}, {} layouts",
+            outcome.reason,
+            outcome.evaluations,
+            outcome.layouts.len()
+        ),
+    }
+}
+
+fn tell(line: &Line, measured: &Measured, markdown: bool) {
+    let (name, window, buffers) = (&line.name, window(line.size), line.buffers.words());
+    let Measured {
+        port,
+        original,
+        runs,
+        repeats,
+        ..
+    } = measured;
+    let (done, ratio) = (done(measured), port / original);
+    if markdown {
+        println!(
+            "| {name} | {window} | {port:.4} | {original:.4} | {buffers} | {runs} × {repeats} | {done} | {ratio:.2} |"
+        );
+    } else {
+        println!(
+            "{name}; {window}; port {port:.4} ms; Rust {original:.4} ms; {buffers}; runs {runs} × {repeats}; {done}; ratio {ratio:.2}"
+        );
+    }
+}
+
+fn main() {
+    let words: Vec<String> = std::env::args().skip(1).collect();
+    let has = |word: &str| words.iter().any(|given| given == word);
+    let only = words
+        .iter()
+        .position(|given| given == "--only")
+        .map(|at| words[at + 1].clone());
+    let lines = [SMALL, MIDDLE, LARGE]
+        .into_iter()
+        .flat_map(at_every_size)
+        .chain(many_on_small());
+    if has("--cpu") {
+        clock::take_processor_time();
+    }
+    for line in lines {
+        let called = format!("{}; {}", line.name, window(line.size));
+        if only
+            .as_ref()
+            .is_some_and(|text| !called.contains(text.as_str()))
+        {
+            continue;
+        }
+        let case = (line.case)();
+        let baselines = Baselines::prepare(&case).expect("accepted ground");
+        let mut port = Port::new(&case, &baselines);
+        let mut original = Original::new(&case, &baselines);
+        if has("--port") || has("--original") {
+            let side: &mut dyn side::Side = if has("--port") {
+                &mut port
+            } else {
+                &mut original
+            };
+            println!("{called}: {:?}", timed(side, &line));
+            continue;
+        }
+        tell(
+            &line,
+            &measure(&mut port, &mut original, &line),
+            has("--markdown"),
+        );
+    }
+}

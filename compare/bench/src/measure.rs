@@ -1,0 +1,151 @@
+//! One line: the same work by the port and by the original in turn, results compared, medians taken.
+
+use std::collections::HashSet;
+use std::time::Duration;
+
+use judge::{Case, Snapshot};
+
+use crate::clock;
+use crate::inputs::Size;
+use crate::original::Original;
+use crate::port::Port;
+use crate::side::{Buffers, Outcome, Side};
+
+pub enum Work {
+    Prepare,
+    Begin,
+    /// So many evaluations in portions, from what begin leaves or from a record that is set.
+    Steps {
+        evaluations: u32,
+        portion: u32,
+        held: Option<Snapshot>,
+    },
+}
+
+pub struct Line {
+    pub name: String,
+    pub size: Size,
+    /// Makes the inputs.
+    pub case: Box<dyn Fn() -> Case>,
+    pub work: Work,
+    pub buffers: Buffers,
+}
+
+pub struct Measured {
+    pub port: f64,
+    pub original: f64,
+    pub runs: usize,
+    pub repeats: u32,
+    pub outcome: Option<Outcome>,
+}
+
+/// The timed part alone: what comes before it makes ready.
+pub fn timed(side: &mut dyn Side, line: &Line) -> Duration {
+    match &line.work {
+        Work::Prepare => {
+            side.forget();
+            side.lend(line.buffers);
+            clock(|| side.prepare())
+        }
+        Work::Begin => {
+            side.forget();
+            side.lend(line.buffers);
+            clock(|| side.begin())
+        }
+        Work::Steps {
+            evaluations,
+            portion,
+            held,
+        } => {
+            match held {
+                Some(held) => side.hold(held),
+                None => side.begin(),
+            }
+            side.lend(line.buffers);
+            clock(|| steps(side, *evaluations, *portion))
+        }
+    }
+}
+
+fn steps(side: &mut dyn Side, evaluations: u32, portion: u32) {
+    let mut done = 0;
+    while done < evaluations && side.is_running() {
+        side.step(portion);
+        done += portion;
+    }
+}
+
+fn clock(call: impl FnOnce()) -> Duration {
+    let from = clock::now();
+    call();
+    clock::now() - from
+}
+
+/// The time of one run: the median of its calls, in milliseconds.
+fn run(side: &mut dyn Side, line: &Line, repeats: u32) -> f64 {
+    let call = |_| timed(side, line).as_secs_f64() * 1e3;
+    median((0..repeats).map(call).collect())
+}
+
+fn median(mut times: Vec<f64>) -> f64 {
+    times.sort_by(f64::total_cmp);
+    times[times.len() / 2]
+}
+
+/// The results of both, which must be the same. `whole` compares the visited sets as well.
+fn compared(port: &dyn Side, original: &dyn Side, line: &Line, whole: bool) -> Option<Outcome> {
+    let name = &line.name;
+    if matches!(line.work, Work::Prepare) {
+        assert!(
+            port.baseline() == original.baseline(),
+            "{name}: two baselines"
+        );
+        return None;
+    }
+    let outcome = port.outcome();
+    assert!(outcome == original.outcome(), "{name}: two outcomes");
+    if whole {
+        let rows: HashSet<_> = port.visited().into_iter().collect();
+        assert!(
+            rows.len() == outcome.evaluations as usize,
+            "{name}: a set visited twice"
+        );
+        assert!(
+            rows == original.visited().into_iter().collect(),
+            "{name}: two visited sets"
+        );
+    }
+    Some(outcome)
+}
+
+/// The first pair tells how often a call is repeated in a run and how many runs there are: 9, 5 where the pair takes above half a second, 3 above
+/// two seconds; above eight the pair is all.
+pub fn measure(port: &mut Port, original: &mut Original, line: &Line) -> Measured {
+    let first = [timed(port, line), timed(original, line)].map(|time| time.as_secs_f64() * 1e3);
+    let outcome = compared(port, original, line, true);
+    let pair = first[0] + first[1];
+    let repeats = (50.0 / pair).clamp(1.0, 500.0) as u32;
+    let runs = match pair {
+        pair if pair > 8_000.0 => 0,
+        pair if pair > 2_000.0 => 3,
+        pair if pair > 500.0 => 5,
+        _ => 9,
+    };
+    let mut times = [Vec::new(), Vec::new()];
+    for _ in 0..runs {
+        times[0].push(run(port, line, repeats));
+        times[1].push(run(original, line, repeats));
+        compared(port, original, line, false);
+    }
+    if runs == 0 {
+        times = first.map(|time| vec![time]);
+    }
+    let [port, original] = times;
+    Measured {
+        runs: port.len(),
+        port: median(port),
+        original: median(original),
+        repeats,
+        outcome,
+    }
+}

@@ -1,0 +1,90 @@
+//! The original, driven through the judge's probe. Its visited sets have no order and none is noted.
+
+use judge::walls::search::{WallSearch, probe};
+use judge::{Baselines, Case, PixelRect, Snapshot, TerrainGrid};
+
+use crate::side::{Buffers, Outcome, Side};
+
+pub struct Original<'a> {
+    case: &'a Case,
+    baselines: &'a Baselines,
+    grid: TerrainGrid,
+    obstacles: Vec<PixelRect>,
+    made: Option<Vec<bool>>,
+    search: Option<WallSearch>,
+}
+
+impl<'a> Original<'a> {
+    pub fn new(case: &'a Case, baselines: &'a Baselines) -> Self {
+        Self {
+            case,
+            baselines,
+            grid: probe::terrain(case),
+            obstacles: case.obstacles.iter().copied().map(probe::rect).collect(),
+            made: None,
+            search: None,
+        }
+    }
+
+    fn build(&self, held: &Snapshot) -> WallSearch {
+        let Baselines { block, allow } = self.baselines;
+        probe::build(self.case, block, allow.as_deref(), held)
+    }
+
+    fn held(&self) -> &WallSearch {
+        self.search.as_ref().expect("a search that was begun")
+    }
+}
+
+impl Side for Original<'_> {
+    fn prepare(&mut self) {
+        let made = probe::prepare_on(&self.grid, &self.obstacles, self.case, self.case.block);
+        self.made = Some(made.expect("an accepted prepare"));
+    }
+
+    /// The looks of begin at the baselines, then the struct: `WallSearch::new` would prepare again.
+    fn begin(&mut self) {
+        probe::ends_joined(self.case, &self.baselines.block).expect("an accepted begin");
+        if let Some(allow) = &self.baselines.allow {
+            probe::ends_joined(self.case, allow).expect("an accepted begin");
+        }
+        self.search = Some(self.build(&Snapshot::begun(self.case.placements.len() as u32)));
+    }
+
+    fn step(&mut self, evaluations: u32) {
+        let search = self.search.as_mut().expect("a search that was begun");
+        search.step(evaluations);
+    }
+
+    fn is_running(&self) -> bool {
+        !self.held().is_done()
+    }
+
+    fn forget(&mut self) {
+        self.made = None;
+        self.search = None;
+    }
+
+    fn hold(&mut self, held: &Snapshot) {
+        self.search = Some(self.build(held));
+    }
+
+    fn lend(&mut self, _: Buffers) {}
+
+    fn baseline(&self) -> Vec<bool> {
+        self.made.clone().expect("a baseline that was prepared")
+    }
+
+    fn outcome(&self) -> Outcome {
+        let held = probe::read(self.held(), self.case, Vec::new());
+        Outcome {
+            reason: held.reason,
+            evaluations: held.evaluations,
+            layouts: held.layouts,
+        }
+    }
+
+    fn visited(&self) -> Vec<Vec<usize>> {
+        probe::visited(self.held()).iter().cloned().collect()
+    }
+}

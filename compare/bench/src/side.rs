@@ -1,0 +1,60 @@
+//! What the driver asks of both searches.
+
+use judge::{Layout, Reason, Snapshot};
+
+/// What a call is timed by: the original or the port. Every timed call is made through these.
+pub trait Side {
+    /// The blocked mover's baseline, true where it is kept off.
+    fn prepare(&mut self);
+
+    /// A search over both baselines that holds no evaluated set.
+    fn begin(&mut self);
+
+    fn step(&mut self, evaluations: u32);
+
+    fn is_running(&self) -> bool;
+
+    /// Makes ready for a timed prepare or begin.
+    fn forget(&mut self);
+
+    /// Puts what `held` says in place of what begin left.
+    fn hold(&mut self, held: &Snapshot);
+
+    /// Sets what a call may find in the lent areas beside the used entries. The original lends none.
+    fn lend(&mut self, buffers: Buffers);
+
+    fn baseline(&self) -> Vec<bool>;
+
+    fn outcome(&self) -> Outcome;
+
+    fn visited(&self) -> Vec<Vec<usize>>;
+}
+
+/// What the lent areas hold, beside the used entries, when the timed call begins.
+#[derive(Debug, Copy, Clone, Eq, PartialEq)]
+pub enum Buffers {
+    /// What the call before left. The driver does nothing.
+    AsLeft,
+    /// Zero: cleared by the driver, outside the timed part.
+    Cleared,
+    /// Rubbish: written by the driver, outside the timed part.
+    Rubbish,
+}
+
+impl Buffers {
+    pub fn words(self) -> &'static str {
+        match self {
+            Self::AsLeft => "not cleared first",
+            Self::Cleared => "cleared first",
+            Self::Rubbish => "not cleared first, rubbish in them",
+        }
+    }
+}
+
+/// What both must agree in after a step.
+#[derive(Debug, Clone, Eq, PartialEq)]
+pub struct Outcome {
+    pub reason: Reason,
+    pub evaluations: u32,
+    pub layouts: Vec<Layout>,
+}

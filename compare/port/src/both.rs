@@ -1,0 +1,199 @@
+//! One call made to both sides from the same values, and everything it leaves compared. The expected answer of a refusal is
+//! `rules`'; what an accepted call leaves is the original's.
+
+use judge::walls::search::probe;
+use judge::{Baselines, Case, Mover, Search, Snapshot};
+
+use crate::port;
+use crate::rules;
+use crate::values::{Inputs, Query, Store, Terrain, Work, rect};
+
+/// What differs, in words.
+pub type Difference = String;
+
+fn same<T: PartialEq + std::fmt::Debug>(what: &str, expected: &T, found: &T) -> Result<(), Difference> {
+    if expected == found {
+        return Ok(());
+    }
+    Err(format!("{what}: expected {}, the port has {}", short(expected), short(found)))
+}
+
+fn short<T: std::fmt::Debug>(value: &T) -> String {
+    let text = format!("{value:?}");
+    if text.len() <= 600 { text } else { text.chars().take(600).chain(" ..".chars()).collect() }
+}
+
+fn same_area<T: PartialEq + std::fmt::Debug>(call: &str, what: &str, expected: &[T], found: &[T]) -> Result<(), Difference> {
+    if expected == found {
+        return Ok(());
+    }
+    let at = expected.iter().zip(found).position(|(a, b)| a != b).unwrap_or(expected.len().min(found.len()));
+    Err(format!("{call}: {what}[{at}] expected {:?}, the port has {:?}", expected.get(at), found.get(at)))
+}
+
+fn same_work(call: &str, expected: &Work, found: &Work) -> Result<(), Difference> {
+    same_area(call, "counts", &expected.counts, &found.counts)?;
+    same_area(call, "map", &expected.map, &found.map)?;
+    same_area(call, "queue", &expected.queue, &found.queue)?;
+    same_area(call, "predecessors", &expected.predecessors, &found.predecessors)?;
+    same_area(call, "route", &expected.route, &found.route)
+}
+
+fn same_store(call: &str, expected: &Store, found: &Store) -> Result<(), Difference> {
+    same_area(call, "record", &expected.record, &found.record)?;
+    same_area(call, "lists", &expected.lists, &found.lists)?;
+    same_area(call, "visited", &expected.visited, &found.visited)?;
+    same_area(call, "layouts", &expected.layouts, &found.layouts)?;
+    same_area(call, "points", &expected.points, &found.points)
+}
+
+/// Prepares a mover. The answer's number, once both agree.
+pub fn prepare(terrain: &Terrain, query: &Query, mover: [u32; 4], baseline: &mut [u8], work: &mut Work) -> Result<u32, Difference> {
+    let early = rules::prepare(terrain, query, mover, baseline, work);
+    let (before, work_before) = (baseline.to_vec(), work.clone());
+    let answer = port::prepare(terrain, query, mover, baseline, work);
+    if let Err((number, _)) = early {
+        same("prepare's answer", &number, &answer)?;
+        same_area("prepare", "baseline", &before, baseline)?;
+        same_work("prepare", &work_before, work)?;
+        return Ok(number);
+    }
+    let case = Case {
+        map: (terrain.across, terrain.down),
+        cells: terrain.cells.clone(),
+        obstacles: terrain.obstacles.chunks(4).map(rect).collect(),
+        block: judge::Bounds::new(mover[0], mover[1], mover[2], mover[3]),
+        ..bare(query)
+    };
+    let (number, marked) = match judge::prepare(&case, Mover::Block) {
+        Ok(marked) => (0, marked),
+        Err(number) if number >= 7 => (number, vec![false; case.centres()]),
+        Err(number) => return Err(format!("prepare: the two readings of 01 differ: accepted, and {number}")),
+    };
+    same("prepare's answer", &number, &answer)?;
+    let mut expected = before;
+    for (byte, &off) in expected.iter_mut().zip(&marked) {
+        *byte = u8::from(off);
+    }
+    same_area("prepare", "baseline", &expected, baseline)?;
+    same_work("prepare", &work_before.cleared(query), work)?;
+    Ok(number)
+}
+
+fn bare(query: &Query) -> Case {
+    Inputs {
+        query: query.clone(),
+        states: 1,
+        results: 1,
+        groups: Vec::new(),
+        numbers: Vec::new(),
+        edges: Vec::new(),
+        block_base: Vec::new(),
+        allow_base: Vec::new(),
+    }
+    .case()
+}
+
+/// Begins. The original's search where the call is accepted, else the refusal.
+pub fn begin(inputs: &Inputs, store: &mut Store, work: &mut Work) -> Result<Result<Search, u32>, Difference> {
+    let rule = rules::begin(inputs, work, store);
+    let (before, work_before) = (store.clone(), work.clone());
+    let answer = port::begin(inputs, store, work);
+    same("begin's answer", &rule.err().unwrap_or((0, 0)), &answer)?;
+    if let Err((number, _)) = rule {
+        let clears = matches!(number, 7 | 8 | 9 | 14 | 15);
+        let expected = if clears { work_before.cleared(&inputs.query) } else { work_before };
+        same_store("begin", &before, store)?;
+        same_work("begin", &expected, work)?;
+        return Ok(Err(number));
+    }
+    let search = Search::begin_on(&inputs.case(), &inputs.baselines())
+        .map_err(|number| format!("begin: the two readings of 01 differ: accepted, and {number}"))?;
+    same_store("begin", &before.image(&search.snapshot(), inputs.needs()), store)?;
+    same_work("begin", &work_before.cleared(&inputs.query), work)?;
+    Ok(Ok(search))
+}
+
+/// The original's search that holds what an accepted record says.
+pub fn original(inputs: &Inputs, store: &Store) -> Result<Search, Difference> {
+    Search::set_on(&inputs.case(), &inputs.baselines(), &store.held(inputs))
+        .map_err(|number| format!("the two readings of 01 differ: accepted, and {number}"))
+}
+
+/// Steps by `n`; `search` is the original's, made from the record where there is none at hand.
+pub fn step(
+    inputs: &Inputs,
+    store: &mut Store,
+    n: u32,
+    work: &mut Work,
+    search: Option<&mut Search>,
+) -> Result<Result<Snapshot, u32>, Difference> {
+    let rule = rules::step(inputs, work, store);
+    let (before, work_before) = (store.clone(), work.clone());
+    let answer = port::step(inputs, store, n, work);
+    same("step's answer", &rule.err().unwrap_or((0, 0)), &answer)?;
+    if let Err((number, _)) = rule {
+        same_store("step", &before, store)?;
+        same_work("step", &work_before, work)?;
+        return Ok(Err(number));
+    }
+    let held = match search {
+        Some(search) => {
+            search.step(n);
+            search.snapshot()
+        }
+        None => {
+            let mut search = original(inputs, &before)?;
+            search.step(n);
+            search.snapshot()
+        }
+    };
+    same_store("step", &before.image(&held, inputs.needs()), store)?;
+    same_work("step", &work_before.cleared(&inputs.query), work)?;
+    Ok(Ok(held))
+}
+
+/// Reads layout `k`'s route: its part of the points area.
+pub fn read(inputs: &Inputs, store: &Store, k: u32) -> Result<u32, Difference> {
+    let rule = rules::read(inputs, store, k);
+    let part = port::read(inputs, store, k);
+    same("read's answer", &rule.err().unwrap_or((0, 0)), &part.answer)?;
+    if let Err((number, _)) = rule {
+        same("read's part", &(0, 0), &(part.first, part.count))?;
+        return Ok(number);
+    }
+    let held = store.held(inputs);
+    let first: usize = held.layouts[..k as usize].iter().map(|layout| layout.route.len()).sum();
+    let route = &held.layouts[k as usize].route;
+    same("read's part", &(first as u32, route.len() as u32), &(part.first, part.count))?;
+    let (first, count) = (part.first as usize, part.count as usize);
+    let read = store.points.get(2 * first..2 * (first + count)).unwrap_or(&[]);
+    let points: Vec<(u32, u32)> = read.chunks_exact(2).map(|point| (point[0], point[1])).collect();
+    same("read's points", route, &points)?;
+    Ok(0)
+}
+
+/// Judges a selection: the refusal, or the verdict's number.
+pub fn judge(inputs: &Inputs, selection: &[u16], work: &mut Work, search: Option<&Search>) -> Result<Result<u32, u32>, Difference> {
+    let rule = rules::judge(inputs, work, selection);
+    let work_before = work.clone();
+    let found = port::judge(inputs, selection, work);
+    same("judge's answer", &rule.err().unwrap_or((0, 0)), &found.answer)?;
+    if let Err((number, _)) = rule {
+        same("judge's verdict and ground", &(0, 0), &(found.verdict, found.ground))?;
+        same_work("judge", &work_before, work)?;
+        return Ok(Err(number));
+    }
+    let expected = match search {
+        Some(search) => rules::verdict(inputs, search.original(), selection),
+        None => {
+            let Baselines { block, allow } = inputs.baselines();
+            let case = inputs.case();
+            let held = Snapshot::begun(case.placements.len() as u32);
+            rules::verdict(inputs, &probe::build(&case, &block, allow.as_deref(), &held), selection)
+        }
+    };
+    same(&format!("judge's verdict and ground of {selection:?}"), &expected, &(found.verdict, found.ground))?;
+    same_work("judge", &work_before.cleared(&inputs.query), work)?;
+    Ok(Ok(expected.0))
+}

@@ -1,0 +1,136 @@
+-- The search record as fifty numbers: how it is laid, and read back.
+use Prim.Native.Nat.{ℕ, _+_, _≤_, _<_}
+use mathlib.Core.Path.{_≡_, refl, sym, _∙_, ap, ap₂}
+use mathlib.Core.Bool.{Bool, true, false, _&&_}
+use mathlib.Core.Option.{Option, none, some}
+use mathlib.Core.List.{List, [], _∷_, _++_, append-assoc}
+use native.Mathlib.Omega.{arith}
+use lib.Dec.{leb, eqb}
+use lib.ListN.{length, getD, take, drop, length-append, length-drop, length-map}
+use lib.Seq.{take-at, drop-at, drop-drop, length-take-le}
+use borrow.Author.Tests.{leb-true, leb-false, lt-leb, le-leb}
+use mir.Val.{Val}
+use denote.Laws.{Is}
+use Rattle.laws.proofs.Members.{either}
+use Rattle.model.specs.Answers.{Said}
+use Rattle.model.specs.declared.Record.{Record}
+use Rattle.model.proofs.Record as Recordᵀ
+use Rattle.calls.specs.Calls.{noRecord}
+use Rattle.calls.proofs.Whole.{Shape}
+use Rattle.numbered.specs.Numbers.{oneWhere, numbersOf, recordOf, recordIn, leftIn, lentOf}
+
+-- ---- how much of the visited area is lent on
+pub lent-short : (n visited : ℕ) → n < 50 → lentOf n visited ≡ 0
+unfolding lentOf
+lent-short n visited h = rw (lt-leb 50 n h, lentOf)
+
+pub lent-whole : (n visited : ℕ) → 50 ≤ n → lentOf n visited ≡ visited
+unfolding lentOf
+lent-whole n visited h = rw (le-leb 50 n h, lentOf)
+
+pub lent-at-most : (n visited : ℕ) → lentOf n visited ≤ visited
+lent-at-most n visited =
+    either (leb 50 n) (λ t. omega (arith, lent-whole n visited (leb-true 50 n t))) (λ t. omega (arith, lent-short n visited (leb-false 50 n t)))
+
+-- ---- the record read
+pub in-short : (ns : List ℕ) → length ns < 50 → recordIn ns ≡ noRecord
+unfolding recordIn
+in-short ns h = rw (lt-leb 50 (length ns) h, recordIn)
+
+pub in-high : (ns : List ℕ) → 50 ≤ length ns → 1 < getD ns 5 0 → recordIn ns ≡ noRecord
+unfolding recordIn
+in-high ns h k = rw (le-leb 50 (length ns) h, lt-leb (getD ns 5 0) 1 k, recordIn)
+
+pub in-whole : (ns : List ℕ) → 50 ≤ length ns → getD ns 5 0 ≤ 1 → recordIn ns ≡ recordOf ns
+unfolding recordIn
+in-whole ns h k = rw (le-leb 50 (length ns) h, le-leb (getD ns 5 0) 1 k, recordIn)
+
+-- ---- the record laid
+-- the arrays have the lengths that their types say
+pub record-shape : (r : Record) (vs : List Val) → Is Recordᵀ.the-row r vs → Shape r
+record-shape r vs g = record {
+  routes = sym (length-map (r .routes) (λ (v : ℕ). v)) ∙ g .1 .1 .1 .1 .1 .1 .1 .1 .0 .1 .0 .1;
+  lengths = sym (length-map (r .lengths) (λ (v : ℕ). v)) ∙ g .1 .1 .1 .1 .1 .1 .1 .1 .1 .0 .1 .0 .1;
+  nexts = sym (length-map (r .nexts) (λ (v : ℕ). v)) ∙ g .1 .1 .1 .1 .1 .1 .1 .1 .1 .1 .0 .1 .0 .1;
+}
+
+pub part-long : (xs : List ℕ) (a n : ℕ) → a + n ≤ length xs → length (take n (drop a xs)) ≡ n
+part-long xs a n h = length-take-le n (drop a xs) (omega (arith, length-drop a xs))
+
+-- a row laid after those before it
+next-row : (xs ys l : List ℕ) (a n : ℕ) → length xs ≡ a → take a (xs ++ drop a l) ++ (ys ++ drop n (drop a (xs ++ drop a l))) ≡ (xs ++ ys) ++ drop (a + n) l
+next-row xs ys l a n e =
+    ap₂ (λ (p q : List ℕ). p ++ (ys ++ drop n q)) (take-at xs (drop a l) a e) (drop-at xs (drop a l) a e)
+    ∙ ap (λ (q : List ℕ). xs ++ (ys ++ q)) (drop-drop n a l)
+    ∙ sym (append-assoc xs ys (drop (a + n) l))
+
+-- the list with ys in the place of its n entries from a on
+abbrev pub with-row : ℕ → ℕ → List ℕ → List ℕ → List ℕ
+with-row a n xs ys = take a xs ++ (ys ++ drop n (drop a xs))
+
+rows-laid : (h a b c l : List ℕ) → length h ≡ 6 → length a ≡ 32 → length b ≡ 6
+    → with-row 44 6 (with-row 38 6 (with-row 6 32 (h ++ drop 6 l) a) b) c ≡ h ++ a ++ b ++ c ++ drop 50 l
+rows-laid h a b c l eh ea eb =
+    ap (λ (x : List ℕ). with-row 44 6 (with-row 38 6 x b) c) (next-row h a l 6 32 eh)
+    ∙ ap (λ (x : List ℕ). with-row 44 6 x c) (next-row (h ++ a) b l 38 6 (omega (arith, length-append h a)))
+    ∙ next-row (h ++ a ++ b) c l 44 6 (omega (arith, length-append (h ++ a) b, length-append h a))
+
+pub record-laid : (r : Record) (l h a b c : List ℕ) → Shape r
+    → h ≡ r .reason ∷ r .evaluations ∷ r .placements ∷ r .layouts ∷ r .lists ∷ oneWhere (r .pending) ∷ [] → a ≡ r .routes → b ≡ r .lengths → c ≡ r .nexts
+    → with-row 44 6 (with-row 38 6 (with-row 6 32 (h ++ drop 6 l) a) b) c ≡ numbersOf r ++ drop 50 l
+unfolding numbersOf
+record-laid r l h a b c s eh ea eb ec =
+    rows-laid h a b c l (ap (λ (x : List ℕ). length x) eh) (ap (λ (x : List ℕ). length x) ea ∙ s .routes) (ap (λ (x : List ℕ). length x) eb ∙ s .lengths)
+    ∙ rw (eh, ea, eb, ec)
+
+pub left-short : (o : Option Said) (r : Record) (ns : List ℕ) → length ns < 50 → ns ≡ leftIn o r ns
+unfolding leftIn
+left-short none r ns h = rw (lt-leb 50 (length ns) h, leftIn)
+left-short (some e) r ns h = refl
+
+pub left-laid : (r : Record) (ns : List ℕ) → 50 ≤ length ns → numbersOf r ++ drop 50 ns ≡ leftIn none r ns
+unfolding leftIn
+left-laid r ns h = rw (le-leb 50 (length ns) h, leftIn)
+
+-- ---- what is laid is read back
+module _ (a b c rest : List ℕ) (ea : length a ≡ 32) (eb : length b ≡ 6) (ec : length c ≡ 6) where
+  first-row : take 32 (a ++ b ++ c ++ rest) ≡ a
+  first-row = ap (λ (x : List ℕ). take 32 (x ++ rest)) (append-assoc a b c) ∙ ap (λ (x : List ℕ). take 32 x) (append-assoc a (b ++ c) rest) ∙ take-at a (b ++ c ++ rest) 32 ea
+
+  second-row : take 6 (drop 32 (a ++ b ++ c ++ rest)) ≡ b
+  second-row =
+      ap (λ (x : List ℕ). take 6 (drop 32 (x ++ rest))) (append-assoc a b c)
+      ∙ ap (λ (x : List ℕ). take 6 (drop 32 x)) (append-assoc a (b ++ c) rest)
+      ∙ ap (λ (x : List ℕ). take 6 x) (drop-at a (b ++ c ++ rest) 32 ea)
+      ∙ ap (λ (x : List ℕ). take 6 x) (append-assoc b c rest)
+      ∙ take-at b (c ++ rest) 6 eb
+
+  third-row : take 6 (drop 38 (a ++ b ++ c ++ rest)) ≡ c
+  third-row =
+      ap (λ (x : List ℕ). take 6 (drop 38 x)) (append-assoc (a ++ b) c rest)
+      ∙ ap (λ (x : List ℕ). take 6 x) (drop-at (a ++ b) (c ++ rest) 38 (omega (arith, length-append a b)))
+      ∙ take-at c rest 6 ec
+
+  rows-long : 44 ≤ length (a ++ b ++ c ++ rest)
+  rows-long = omega (arith, length-append (a ++ b ++ c) rest, length-append (a ++ b) c, length-append a b)
+
+one-where : (p : Bool) → eqb (oneWhere p) 1 ≡ p
+unfolding oneWhere
+one-where true = refl
+one-where false = refl
+
+one-at-most : (p : Bool) → oneWhere p ≤ 1
+unfolding oneWhere
+one-at-most true = omega arith
+one-at-most false = omega arith
+
+pub record-back : (r : Record) (rest : List ℕ) → Shape r → recordIn (numbersOf r ++ rest) ≡ r
+unfolding numbersOf recordOf
+record-back r rest s =
+    in-whole (numbersOf r ++ rest) (omega (arith, rows-long (r .routes) (r .lengths) (r .nexts) rest (s .routes) (s .lengths) (s .nexts))) (one-at-most (r .pending))
+    ∙ rw (
+      first-row (r .routes) (r .lengths) (r .nexts) rest (s .routes) (s .lengths) (s .nexts),
+      second-row (r .routes) (r .lengths) (r .nexts) rest (s .routes) (s .lengths) (s .nexts),
+      third-row (r .routes) (r .lengths) (r .nexts) rest (s .routes) (s .lengths) (s .nexts),
+      one-where (r .pending),
+    )

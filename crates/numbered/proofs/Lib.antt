@@ -1,0 +1,3 @@
+pub mod Fifty
+pub mod Signed
+pub mod Left

@@ -1,0 +1,99 @@
+-- What the calls are given and leave where every value is a number.
+use Prim.Native.Nat.{ℕ, zero, suc}
+use mathlib.Core.Bool.{Bool, true, false, _&&_}
+use mathlib.Core.Option.{Option, none, some}
+use mathlib.Core.List.{List, [], _∷_, _++_}
+use lib.Dec.{leb, eqb}
+use lib.IntN.{ℤ}
+use lib.ListN.{length, getD, take, drop}
+use Rattle.model.specs.Answers.{Said}
+use Rattle.model.specs.declared.Allow.{Allow}
+use Rattle.model.specs.declared.Allow.the-variants.{Nobody, Bounded}
+use Rattle.model.specs.declared.Query.{Query}
+use Rattle.model.specs.declared.Record.{Record}
+use Rattle.model.specs.declared.Verdict.{Verdict}
+use Rattle.model.specs.declared.Verdict.the-variants.{Slots, Overlap, EndCovered, Open, Spare, Shut, Wall}
+use Rattle.rects.specs.Rects.{rect}
+use Rattle.calls.specs.Calls.{noRecord, Judgement, refuses, judges}
+
+-- ---- the query
+-- 0 is nobody; any other number lets the mover with these bounds pass
+unfoldable pub allowFrom : (given left top right bottom : ℕ) → Allow
+allowFrom zero left top right bottom = Nobody
+allowFrom (suc n) left top right bottom = Bounded (record { left = left; top = top; right = right; bottom = bottom })
+
+unfoldable pub queryFrom : (windowLeft windowTop windowRight windowBottom : ℤ) → (startX startY endX endY : ℕ)
+    → (blockLeft blockTop blockRight blockBottom : ℕ)
+    → (allowGiven allowLeft allowTop allowRight allowBottom : ℕ) → Query
+queryFrom windowLeft windowTop windowRight windowBottom startX startY endX endY blockLeft blockTop blockRight blockBottom allowGiven allowLeft
+    allowTop allowRight allowBottom = record {
+      window = rect windowLeft windowTop windowRight windowBottom;
+      start = record { x = startX; y = startY };
+      end = record { x = endX; y = endY };
+      block = record { left = blockLeft; top = blockTop; right = blockRight; bottom = blockBottom };
+      allow = allowFrom allowGiven allowLeft allowTop allowRight allowBottom;
+    }
+
+-- ---- the search record as fifty numbers
+unfoldable pub oneWhere : Bool → ℕ
+oneWhere true = 1
+oneWhere false = 0
+
+-- reason, evaluations, placements, layouts, lists, pending, then 32 route lengths, 6 list lengths, 6 nexts
+unfoldable pub numbersOf : Record → List ℕ
+numbersOf r =
+    (r .reason ∷ r .evaluations ∷ r .placements ∷ r .layouts ∷ r .lists ∷ oneWhere (r .pending) ∷ []) ++ r .routes ++ r .lengths ++ r .nexts
+
+unfoldable pub recordOf : List ℕ → Record
+recordOf ns = record {
+  reason = getD ns 0 0;
+  evaluations = getD ns 1 0;
+  placements = getD ns 2 0;
+  layouts = getD ns 3 0;
+  lists = getD ns 4 0;
+  pending = eqb (getD ns 5 0) 1;
+  routes = take 32 (drop 6 ns);
+  lengths = take 6 (drop 38 ns);
+  nexts = take 6 (drop 44 ns);
+}
+
+-- the record that is refused by 16 where there are fewer than fifty numbers or pending is above 1
+unfoldable pub recordIn : List ℕ → Record
+recordIn ns = elim (leb 50 (length ns) && leb (getD ns 5 0) 1) [ true ↦ recordOf ns | false ↦ noRecord ]
+
+-- the numbers after a call: the record's where it is accepted, and past the fiftieth what stood there; on a refusal what stood there
+unfoldable pub leftIn : Option Said → Record → List ℕ → List ℕ
+leftIn none r ns = elim (leb 50 (length ns)) [ true ↦ numbersOf r ++ drop 50 ns | false ↦ ns ]
+leftIn (some e) r ns = ns
+
+-- how much of a visited area of this length is lent on with a record of so many numbers: nothing where they are fewer than fifty
+unfoldable pub lentOf : (numbers visited : ℕ) → ℕ
+lentOf n visited = elim (leb 50 n) [ true ↦ visited | false ↦ 0 ]
+
+-- ---- a judgement as four numbers
+unfoldable pub verdictNumber : Verdict → ℕ
+verdictNumber Slots = 1
+verdictNumber Overlap = 2
+verdictNumber EndCovered = 3
+verdictNumber Open = 4
+verdictNumber Spare = 5
+verdictNumber Shut = 6
+verdictNumber Wall = 7
+
+-- 0 where a verdict is given
+unfoldable pub judgedAnswer : Judgement → ℕ
+judgedAnswer (refuses e) = e .number
+judgedAnswer (judges v ground) = 0
+
+unfoldable pub judgedIndex : Judgement → ℕ
+judgedIndex (refuses e) = getD (e .values) 0 0
+judgedIndex (judges v ground) = 0
+
+-- 0 on a refusal
+unfoldable pub judgedVerdict : Judgement → ℕ
+judgedVerdict (refuses e) = 0
+judgedVerdict (judges v ground) = verdictNumber v
+
+unfoldable pub judgedGround : Judgement → ℕ
+judgedGround (refuses e) = 0
+judgedGround (judges v ground) = ground
