@@ -92,3 +92,15 @@ pub fn copy_u8(s: &mut [u8], from: &[u8], n: usize)
         i += 1;
     }
 }
+
+// The first n entries become those of `from`.
+pub fn copy_u32(s: &mut [u32], from: &[u32], n: usize)
+    requires { ⌜ (n ≤ length (now s)) × (n ≤ length (now from)) ⌝ }
+    ensures { λ r. ⌜ now (s .exit) ≡ take n (now (from .entry)) ++ drop n (now (s .entry)) ⌝ }
+{
+    let mut k = 0;
+    while k < n {
+        s[k] = from[k];
+        k += 1;
+    }
+}

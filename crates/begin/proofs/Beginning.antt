@@ -4,8 +4,7 @@ use mathlib.Core.Path.{_≡_, refl, ap, _∙_}
 use mathlib.Core.Option.{Option, none, some}
 use mathlib.Core.List.{List, [], _∷_, _++_}
 use lib.IntN.{ℤ}
-use lib.ListN.{length, take, drop, replicate, length-replicate}
-use lib.Seq.{take-at}
+use lib.ListN.{length, take, drop, replicate}
 use Rattle.model.specs.Answers.{Said, first}
 use Rattle.model.specs.declared.Limits.{Limits}
 use Rattle.model.specs.declared.Record.{Record}
@@ -17,7 +16,7 @@ use Rattle.calls.specs.Areas.{Work, Store, workIn, laid, cleared, recordOf, sto
 use Rattle.calls.specs.Checks.{placeChecks}
 use Rattle.calls.specs.Calls.{noRecord, beginChecks, bothRoutes, beginCall}
 use Rattle.checks.proofs.Passed.{Begun}
-use Rattle.clearing.proofs.Cleared.{laid-none}
+use Rattle.calls.proofs.Back.{laid-clear}
 use Rattle.begin.specs.Fresh.{orElse}
 use Rattle.begin.specs.Movers.{Movable, Same}
 
@@ -41,9 +40,6 @@ module _ (steps : List Step) (i : Inputs) (l : Limits) (w : Work) (s : Store) {x
     accepts g h k = rw (beginCall, e, g, f, h, k) refl
 
 -- ---- the working areas, cleared, are ready for a passage
-clear-front : (n : ℕ) (area : List ℕ) → take n (laid n [] area) ≡ replicate n 0
-clear-front n area = ap (λ (x : List ℕ). take n x) (laid-none n area) ∙ take-at (replicate n 0) (drop n area) n (length-replicate n 0)
-
 pub movable : (i : Inputs) (l : Limits) (w : Work) (s : Store) (w′ : Work) → Begun i l w s → w′ ≡ cleared (i .query .window) w
     → Movable (i .query) (i .blockBase) (i .allowBase) (w′ .queue) (w′ .predecessors) (w′ .route)
 unfolding cleared
@@ -54,9 +50,9 @@ movable i l w s w′ b e =
         window = b .framing .window;
         startIn = b .framing .startIn;
         endIn = b .framing .endIn;
-        queueClear = ap (λ (x : Work). take n (x .queue)) e ∙ clear-front n (w .queue);
-        previousClear = ap (λ (x : Work). take n (x .predecessors)) e ∙ clear-front n (w .predecessors);
-        pathClear = ap (λ (x : Work). take n (x .route)) e ∙ clear-front n (w .route);
+        queueClear = ap (λ (x : Work). take n (x .queue)) e ∙ laid-clear n (w .queue);
+        previousClear = ap (λ (x : Work). take n (x .predecessors)) e ∙ laid-clear n (w .predecessors);
+        pathClear = ap (λ (x : Work). take n (x .route)) e ∙ laid-clear n (w .route);
       };
       block = b .baselines .block;
       allow = b .baselines .allow;

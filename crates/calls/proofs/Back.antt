@@ -8,7 +8,7 @@ use lib.ListN.{length, take, drop, getD, length-map, length-reverse, List·getD-
 use lib.Seq.{take-append-seam, take-append-le, drop-drop, getD-drop}
 use Rattle.laws.specs.Lists.{below, span, total, flat, padded}
 use Rattle.laws.specs.Fill.{zeros}
-use Rattle.laws.proofs.Stores.{length-padded}
+use Rattle.laws.proofs.Stores.{length-padded, front-cleared}
 use Rattle.laws.proofs.Tests.{below-last}
 use Rattle.model.specs.declared.Position.{Position}
 use Rattle.model.specs.declared.Limits.{Limits}
@@ -41,6 +41,13 @@ Six v = length v ≤ 6
 pub laid-front : (n : ℕ) (xs a : List ℕ) → laid n xs a ≡ xs ++ (zeros (n - length xs) ++ drop n a)
 unfolding laid padded
 laid-front n xs a = append-assoc xs (zeros (n - length xs)) (drop n a)
+
+-- nothing is used
+pub laid-none : (n : ℕ) (a : List ℕ) → laid n [] a ≡ zeros n ++ drop n a
+laid-none n a = let z : n - 0 ≡ n = omega arith in laid-front n [] a ∙ ap (λ (k : ℕ). zeros k ++ drop n a) z
+
+pub laid-clear : (n : ℕ) (a : List ℕ) → take n (laid n [] a) ≡ zeros n
+laid-clear n a = ap (take n) (laid-none n a) ∙ front-cleared 0 n (drop n a)
 
 -- ---- rows
 abbrev pub firstRow : List ℕ → List ℕ

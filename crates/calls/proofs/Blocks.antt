@@ -1,14 +1,14 @@
 -- Lists laid one after another, and what stands where.
 use Prim.Native.Nat.{ℕ, zero, suc, _+_, _-_, _*_, _≤_, _<_}
-use mathlib.Core.Path.{_≡_, refl, sym, _∙_, ap}
+use mathlib.Core.Path.{_≡_, refl, sym, _∙_, ap, ap₂}
 use mathlib.Core.List.{List, [], _∷_, _++_, map, append-assoc}
 use native.Mathlib.Omega.{arith}
 use native.Mathlib.Nat.{suc-mul, zero-mul}
 use lib.ListN.{length, take, drop, getD, length-append, take-append-drop}
-use lib.Seq.{take-append-seam, drop-append-add, take-at, drop-drop}
+use lib.Seq.{take-append-seam, drop-append-add, drop-drop}
 use Rattle.laws.specs.Lists.{below, total, flat, padded}
 use Rattle.laws.specs.Fill.{zeros, over}
-use Rattle.laws.proofs.Stores.{length-zeros}
+use Rattle.laws.proofs.Stores.{length-zeros, over-after}
 use Rattle.laws.proofs.Tables.{table-is}
 use Rattle.calls.specs.Areas.{laid}
 
@@ -16,11 +16,6 @@ module _ {A : Type 0} where
   -- a list is what a function gives below its length
   pub map-below : (f : ℕ → A) (d : A) (n : ℕ) (xs : List A) → n ≡ length xs → ((k : ℕ) → k < n → f k ≡ getD xs k d) → map f (below n) ≡ xs
   map-below f d n xs e h = sym (table-is f n d xs (sym e) (λ k l. sym (h k l)))
-
-  pub flat-append : (xs ys : List (List A)) → flat (xs ++ ys) ≡ flat xs ++ flat ys
-  unfolding flat
-  flat-append [] ys = refl
-  flat-append (x ∷ xs) ys = ap (λ (q : List A). x ++ q) (flat-append xs ys) ∙ sym (append-assoc x (flat xs) (flat ys))
 
 module _ {A B : Type 0} where
   pub getD-map : (f : A → B) (xs : List A) (k : ℕ) (d : A) (e : B) → k < length xs → getD (map f xs) k e ≡ f (getD xs k d)
@@ -73,26 +68,22 @@ take-padded n es z = ap (λ (q : List ℕ). take (length es) q) (append-assoc es
 -- The entries of one list are kept and those up to its width become zero; what stands past it is not touched yet.
 pub clear-one : (X a used : List ℕ) (at w : ℕ) → length X ≡ at → used ≡ take (length used) (drop at a) → length used ≤ w → at + w ≤ length a
     → over (X ++ drop at a) (at + length used) (zeros (w - length used)) ≡ (X ++ padded w used) ++ drop (at + w) a
-unfolding over padded
+unfolding padded
 clear-one X a used at w e u h k =
     let d : ℕ = w - length used in
     let R : List ℕ = drop (at + length used) a in
     let s : drop at a ≡ used ++ R = sym (take-append-drop (length used) (drop at a)) ∙ ap (λ (q : List ℕ). q ++ drop (length used) (drop at a)) (sym u) ∙ ap (λ (q : List ℕ). used ++ q) (drop-drop (length used) at a) in
     let t : X ++ drop at a ≡ (X ++ used) ++ R = ap (λ (q : List ℕ). X ++ q) s ∙ sym (append-assoc X used R) in
     let l : length (X ++ used) ≡ at + length used = length-append X used ∙ ap (λ (n : ℕ). n + length used) e in
-    let lz = length-zeros d in
-    ap (λ (q : List ℕ). (take (at + length used) q ++ zeros d) ++ drop (at + length used + length (zeros d)) q) t
-    ∙ ap (λ (q : List ℕ). (q ++ zeros d) ++ drop (at + length used + length (zeros d)) ((X ++ used) ++ R)) (take-at (X ++ used) R (at + length used) l)
-    ∙ ap (λ (n : ℕ). ((X ++ used) ++ zeros d) ++ drop n ((X ++ used) ++ R)) (let x : at + length used + length (zeros d) ≡ length (X ++ used) + d = omega arith in x)
-    ∙ ap (λ (q : List ℕ). ((X ++ used) ++ zeros d) ++ q) (drop-append-add (X ++ used) R d ∙ drop-drop d (at + length used) a ∙ ap (λ (n : ℕ). drop n a) (let x : at + length used + d ≡ at + w = omega arith in x))
-    ∙ ap (λ (q : List ℕ). q ++ drop (at + w) a) (append-assoc X used (zeros d))
+    ap (λ (q : List ℕ). over q (at + length used) (zeros d)) t ∙ over-after (X ++ used) R (zeros d) (at + length used) l
+    ∙ ap₂ (λ (p q : List ℕ). p ++ q) (append-assoc X used (zeros d))
+    (ap (λ (n : ℕ). drop n R) (length-zeros d) ∙ drop-drop d (at + length used) a ∙ ap (λ (n : ℕ). drop n a) (let x : at + length used + d ≡ at + w = omega arith in x))
 
--- allOf that is left up to the area's length becomes zero
+-- all that is left up to the area's length becomes zero
 pub clear-rest : (X a : List ℕ) (at n : ℕ) → length X ≡ at → at ≤ n → over (X ++ drop at a) at (zeros (n - at)) ≡ laid n X a
-unfolding over laid padded
+unfolding laid padded
 clear-rest X a at n e h =
-    let lz = length-zeros (n - at) in
-    ap (λ (q : List ℕ). (q ++ zeros (n - at)) ++ drop (at + length (zeros (n - at))) (X ++ drop at a)) (take-at X (drop at a) at e)
-    ∙ ap (λ (m : ℕ). (X ++ zeros (n - at)) ++ drop m (X ++ drop at a)) (let x : at + length (zeros (n - at)) ≡ length X + (n - at) = omega arith in x)
-    ∙ ap (λ (q : List ℕ). (X ++ zeros (n - at)) ++ q) (drop-append-add X (drop at a) (n - at) ∙ drop-drop (n - at) at a ∙ ap (λ (m : ℕ). drop m a) (let x : at + (n - at) ≡ n = omega arith in x))
+    over-after X (drop at a) (zeros (n - at)) at e
+    ∙ ap (λ (q : List ℕ). (X ++ zeros (n - at)) ++ q)
+    (ap (λ (m : ℕ). drop m (drop at a)) (length-zeros (n - at)) ∙ drop-drop (n - at) at a ∙ ap (λ (m : ℕ). drop m a) (let x : at + (n - at) ≡ n = omega arith in x))
     ∙ ap (λ (m : ℕ). (X ++ zeros (n - m)) ++ drop n a) (sym e)

@@ -1,41 +1,31 @@
 -- Clearing the unused entries leaves what was read, laid out.
-use Prim.Native.Nat.{ℕ, zero, suc, _+_, _-_, _*_, _≤_, _<_}
+use Prim.Native.Nat.{ℕ, suc, _+_, _-_, _*_, _≤_, _<_}
 use mathlib.Core.Path.{_≡_, sym, _∙_, ap}
-use mathlib.Core.List.{List, [], _∷_, _++_, map, reverse, append-nil, reverse-reverse, map-append, map-map}
+use mathlib.Core.List.{List, [], _∷_, _++_, map, reverse, reverse-reverse, map-map}
 use native.Mathlib.Omega.{arith}
 use native.Mathlib.Nat.{suc-mul, zero-mul, mul-comm}
 use native.Mathlib.Numerals.{add-one}
-use lib.ListN.{length, take, drop, getD, length-append, length-drop}
+use lib.ListN.{length, take, drop, getD, length-drop}
 use lib.Seq.{drop-cons, length-take-le}
 use Rattle.laws.specs.Lists.{below, span, flat, padded}
 use Rattle.laws.specs.Fill.{zeros, over}
+use Rattle.laws.proofs.Blocks.{flat-snoc, length-flat}
+use Rattle.laws.proofs.Lists.{length-below, below-out}
 use Rattle.laws.proofs.Stores.{length-padded}
 use Rattle.laws.proofs.Tests.{below-last}
 use Rattle.laws.proofs.Tables.{table-same}
 use Rattle.model.specs.declared.Record.{Record}
 use Rattle.search.specs.State.{Extensions}
 use Rattle.calls.specs.Areas.{laid, rowOf, listOf, listsOf, row}
-use Rattle.calls.proofs.Blocks.{flat-append, clear-one, clear-rest}
+use Rattle.calls.proofs.Blocks.{clear-one, clear-rest}
 use Rattle.calls.proofs.Back.{lists-order}
 
 -- ---- blocks of one width
-pub flat-snoc : (f : ℕ → List ℕ) (k : ℕ) → flat (map f (below (suc k))) ≡ flat (map f (below k)) ++ f k
-unfolding flat
-flat-snoc f k =
-    ap (λ (q : List ℕ). flat (map f q)) (below-last k)
-    ∙ ap flat (map-append f (below k) (k ∷ []))
-    ∙ flat-append (map f (below k)) (f k ∷ [])
-    ∙ ap (λ (q : List ℕ). flat (map f (below k)) ++ q) (append-nil (f k))
+pub flat-more : (f : ℕ → List ℕ) (k : ℕ) → flat (map f (below (suc k))) ≡ flat (map f (below k)) ++ f k
+flat-more f k = ap (λ (q : List ℕ). flat (map f q)) (below-last k) ∙ flat-snoc f (below k) k
 
 pub length-blocks : (w : ℕ) (f : ℕ → List ℕ) (k : ℕ) → ((j : ℕ) → j < k → length (f j) ≡ w) → length (flat (map f (below k))) ≡ k * w
-unfolding flat below span
-length-blocks w f zero h = sym (zero-mul w)
-length-blocks w f (suc k) h =
-    let e = length-blocks w f k (λ j l. h j (omega arith)) in
-    let g = h k (omega arith) in
-    let m = suc-mul k w in
-    ap length (flat-snoc f k) ∙ length-append (flat (map f (below k))) (f k)
-    ∙ (let x : length (flat (map f (below k))) + length (f k) ≡ suc k * w = omega arith in x)
+length-blocks w f k h = length-flat f w (below k) (λ j m. h j (below-out k j m)) ∙ ap (λ (n : ℕ). n * w) (length-below k)
 
 -- what an area of blocks holds: the used entries of block k stand at k × w
 pub record Begins (w : ℕ) (used : ℕ → List ℕ) (a : List ℕ) (k : ℕ) : Type 0 where
@@ -61,7 +51,7 @@ module _ (w : ℕ) (used : ℕ → List ℕ) (a : List ℕ) where
       let m = suc-mul k w in
       let b = h k (omega arith) in
       clear-one (flat (map (λ (j : ℕ). padded w (used j)) (below k))) a (used k) (k * w) w (long k (λ j q. h j (omega arith))) (b .stands) (b .size) (omega arith)
-      ∙ ap (λ (q : List ℕ). q ++ drop (k * w + w) a) (sym (flat-snoc (λ (j : ℕ). padded w (used j)) k))
+      ∙ ap (λ (q : List ℕ). q ++ drop (k * w + w) a) (sym (flat-more (λ (j : ℕ). padded w (used j)) k))
       ∙ ap (λ (n : ℕ). flat (map (λ (j : ℕ). padded w (used j)) (below (suc k))) ++ drop n a) (sym m)
 
   pub rest : (k n : ℕ) → ((j : ℕ) → j < k → Begins w used a j) → k * w ≤ n

@@ -17,7 +17,7 @@ use Rattle.layouts.specs.Inputs.{Inputs}
 use Rattle.calls.specs.Areas.{Store, laid, reasonOf, numberOf, rowOf, positions, numbers, pointsOf, listOf, listsOf, stateOf, recordOf, row, storeOf, pointsLength, storeFits}
 use Rattle.calls.specs.RecordCheck.{recordFits}
 use Rattle.calls.proofs.Blocks.{map-below, clear-rest}
-use Rattle.calls.proofs.Clearing.{flat-snoc, upTo, begin, next, rest, rowUsed, length-rowOf, row-begins, rows-laid, listUsed, length-entries, list-begins, lists-made, lists-laid}
+use Rattle.calls.proofs.Clearing.{flat-more, upTo, begin, next, rest, rowUsed, length-rowOf, row-begins, rows-laid, listUsed, length-entries, list-begins, lists-made, lists-laid}
 use Rattle.calls.proofs.Sound.{Sound, Long, sound, long}
 
 -- ---- points
@@ -67,7 +67,7 @@ module _ (r : Record) (p : List ℕ) (m : ℕ) (w : m ≤ length (r .routes)) (h
   points-joined zero l = refl
   points-joined (suc k) l =
       let s = total-suc (r .routes) k (omega arith) in
-      flat-snoc (λ (j : ℕ). numbers (positions (pointsOf r p j))) k
+      flat-more (λ (j : ℕ). numbers (positions (pointsOf r p j))) k
       ∙ ap (λ (q : List ℕ). q ++ numbers (positions (pointsOf r p k))) (points-joined k (omega arith))
       ∙ ap (λ (q : List ℕ). take (2 * total (take k (r .routes))) p ++ q) (numbers-positions (getD (r .routes) k 0) (pointsOf r p k) (points-length k (omega arith)))
       ∙ points-part r p k

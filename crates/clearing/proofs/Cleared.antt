@@ -18,13 +18,9 @@ use Rattle.layouts.specs.Inputs.{Inputs}
 use Rattle.search.specs.State.{state}
 use Rattle.search.specs.Frames.{begun}
 use Rattle.calls.specs.Areas.{Work, Store, countsLength, pointsLength, workFits, storeFits, laid, cleared, storeOf}
-use Rattle.calls.proofs.Back.{laid-front}
+use Rattle.calls.proofs.Back.{laid-none}
 use Rattle.lengths.specs.Lengths.{pointsRoom}
 use Rattle.clearing.specs.Room.{Room}
-
--- an area of which nothing is used
-pub laid-none : (n : ℕ) (area : List ℕ) → laid n [] area ≡ replicate n 0 ++ drop n area
-laid-none n area = let z : n - 0 ≡ n = omega arith in laid-front n [] area ∙ ap (λ (k : ℕ). replicate k 0 ++ drop n area) z
 
 -- ---- the working areas
 pub record WorkLong (w : Rect) (a : Work) : Type 0 where

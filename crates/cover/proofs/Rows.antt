@@ -7,11 +7,12 @@ use Prim.Native.Nat.{ℕ, suc, _+_, _-_, _*_, _/_, _%_, _≤_, _<_}
 use native.Mathlib.Nat.{mod-lt, div-add-mod', mul-le-mul-right}
 use native.Mathlib.Omega.{arith}
 use lib.Dec.{ltb, leb, eqb}
-use lib.ListN.{length, getD, take, drop, replicate, length-drop, length-replicate, getD-replicate, List·getD-append}
-use lib.Seq.{length-take-le, getD-take, getD-drop, getD-append-add}
-use borrow.Rule.Slice.PartMut.{same-len-mid}
+use lib.ListN.{length, getD, take, drop, replicate, length-drop, length-replicate, getD-replicate}
+use lib.Seq.{length-take-le}
 use borrow.Author.Tests.{ltb-true, ltb-false, leb-true, leb-false, eqb-true, eqb-false, lt-ltb, le-ltb, le-leb, lt-leb}
+use Rattle.laws.specs.Fill.{over}
 use Rattle.laws.proofs.Ints.{leb-iff}
+use Rattle.laws.proofs.Stores.{length-over, over-part, over-before, over-inside, over-behind}
 use Rattle.rects.specs.declared.Span.{Span}
 use Rattle.rects.specs.Spans.{inSpan}
 use Rattle.cover.specs.Cover.{Covered}
@@ -55,44 +56,31 @@ flat s c l r i hs hr =
     (λ h. inr (omega (arith, div-add-mod' i s, mod-lt i hs, mul-le-mul-right s h)))
     (apart (i / s) c (eqb-false (i / s) c e))))
 
--- ---- a part of a list put back
-abbrev putBack : {A : Type 0} → ℕ → ℕ → List A → List A → List A
-putBack a k xs ys = take a xs ++ (ys ++ drop k (drop a xs))
+-- ---- what stands where after v was stored k times from `at` on
+module _ {A : Type 0} (d v : A) (l : List A) (at k : ℕ) (room : at + k ≤ length l) where
+  abbrev vs : List A
+  vs = replicate k v
 
-module _ {A : Type 0} (d : A) (xs ys : List A) (a k : ℕ) (n : a + k ≤ length xs) (m : length ys ≡ k) where
-  head-length : length (take a xs) ≡ a
-  head-length = length-take-le a xs (omega arith)
+  vs-long : length vs ≡ k
+  vs-long = length-replicate {A = A} k v
 
-  put-before : (i : ℕ) → i < a → getD (putBack a k xs ys) i d ≡ getD xs i d
-  put-before i h = List·getD-append (take a xs) (ys ++ drop k (drop a xs)) d i (omega (arith, head-length)) ∙ getD-take a xs i d h
+  vs-room : at + length vs ≤ length l
+  vs-room = omega (arith, vs-long)
 
-  put-rest : (j : ℕ) → getD (putBack a k xs ys) (a + j) d ≡ getD (ys ++ drop k (drop a xs)) j d
-  put-rest j = subst (λ (q : ℕ). getD (putBack a k xs ys) (q + j) d ≡ getD (ys ++ drop k (drop a xs)) j d) head-length (getD-append-add (take a xs) (ys ++ drop k (drop a xs)) j d)
+  over-by : (i : ℕ) (s t : Bool) → leb at i ≡ s → ltb i (at + k) ≡ t → getD (over l at vs) i d ≡ cond (s && t) v (getD l i d)
+  over-by i true true e f =
+      let p = leb-true at i e in
+      let q = ltb-true i (at + k) f in
+      let n : i ≡ at + (i - at) = omega arith in
+      ap (λ (j : ℕ). getD (over l at vs) j d) n ∙ over-inside l at d vs vs-room (i - at) (omega (arith, vs-long)) ∙ getD-replicate k (i - at) v d (omega arith)
+  over-by i true false e f =
+      let q = ltb-false i (at + k) f in
+      let n : at + length vs + (i - (at + k)) ≡ i = omega (arith, vs-long) in
+      subst (λ (j : ℕ). getD (over l at vs) j d ≡ getD l j d) n (over-behind l at d vs vs-room (i - (at + k)))
+  over-by i false t e f = over-before l at d vs vs-room i (leb-false at i e)
 
-  put-in : (i : ℕ) → a ≤ i → i < a + k → getD (putBack a k xs ys) i d ≡ getD ys (i - a) d
-  put-in i h l =
-      let e : a + (i - a) ≡ i = omega arith in
-      subst (λ (q : ℕ). getD (putBack a k xs ys) q d ≡ getD ys (i - a) d) e (put-rest (i - a) ∙ List·getD-append ys (drop k (drop a xs)) d (i - a) (omega arith))
-
-  put-after : (i : ℕ) → a + k ≤ i → getD (putBack a k xs ys) i d ≡ getD xs i d
-  put-after i h =
-      let e : a + (k + (i - a - k)) ≡ i = omega arith in
-      subst (λ (q : ℕ). getD (putBack a k xs ys) q d ≡ getD xs q d) e
-      (put-rest (k + (i - a - k))
-      ∙ subst (λ (q : ℕ). getD (ys ++ drop k (drop a xs)) (q + (i - a - k)) d ≡ getD xs (a + (k + (i - a - k))) d) m
-      (getD-append-add ys (drop k (drop a xs)) (i - a - k) d ∙ getD-drop k (drop a xs) (i - a - k) d ∙ getD-drop a xs (k + (i - a - k)) d))
-
-  put-by : (i : ℕ) (v : A) (s t : Bool) → leb a i ≡ s → ltb i (a + k) ≡ t → ((j : ℕ) → j < k → getD ys j d ≡ v) → getD (putBack a k xs ys) i d ≡ cond (s && t) v (getD xs i d)
-  put-by i v true true e f g =
-      let p = leb-true a i e in
-      let q = ltb-true i (a + k) f in
-      put-in i p q ∙ g (i - a) (omega arith)
-  put-by i v true false e f g = put-after i (ltb-false i (a + k) f)
-  put-by i v false t e f g = put-before i (leb-false a i e)
-
-  -- the part holds v throughout
-  put-fill : (i : ℕ) (v : A) → ((j : ℕ) → j < k → getD ys j d ≡ v) → getD (putBack a k xs ys) i d ≡ cond (inB a (a + k) i) v (getD xs i d)
-  put-fill i v g = put-by i v (leb a i) (ltb i (a + k)) refl refl g
+  over-const : (i : ℕ) → getD (over l at vs) i d ≡ cond (inB at (at + k) i) v (getD l i d)
+  over-const i = over-by i (leb at i) (ltb i (at + k)) refl refl
 
 -- ---- one row more
 row-by : (t y j : ℕ) (q : Bool) → eqb j y ≡ q → t ≤ y → inB t (y + 1) j ≡ (q || inB t y j)
@@ -135,29 +123,39 @@ module _ (cells : List ℕ) (width left right top bottom : ℕ) (cells′ : List
   pub row-ends : (y * width + left ≤ y * width + right) × (y * width + right ≤ length cells′)
   row-ends = (omega arith, omega (arith, t .size, mul-le-mul-right width hy))
 
-  abbrev row : List ℕ
-  row = take (y * width + right - (y * width + left)) (drop (y * width + left) cells′)
+  abbrev from : ℕ
+  from = y * width + left
 
-  row-length : length row ≡ right - left
-  row-length =
-      length-take-le (y * width + right - (y * width + left)) (drop (y * width + left) cells′) (omega (arith, length-drop (y * width + left) cells′, row-ends)) ∙ omega arith
+  abbrev count : ℕ
+  count = y * width + right - (y * width + left)
 
-  pub rows-more : (ys : List ℕ) → ys ≡ replicate (length row) 1 → Rows cells width left right top (putBack (y * width + left) (y * width + right - (y * width + left)) cells′ ys) (y + 1)
-  rows-more ys f = record {
+  row-room : from + count ≤ length cells′
+  row-room = omega (arith, row-ends)
+
+  row-long : length (take count (drop from cells′)) ≡ count
+  row-long = length-take-le count (drop from cells′) (omega (arith, length-drop from cells′, row-room))
+
+  row-laid : Rows cells width left right top (over cells′ from (replicate count 1)) (y + 1)
+  row-laid = record {
     from = omega (arith, t .from);
-    size = same-len-mid (y * width + left) (y * width + right - (y * width + left)) cells′ ys long ∙ t .size;
+    size = length-over cells′ from (replicate count 1) (omega (arith, row-room, length-replicate {A = ℕ} count 1)) ∙ t .size;
     at = λ i.
-        put-fill 0 cells′ ys (y * width + left) (y * width + right - (y * width + left)) (omega (arith, row-ends)) (long ∙ row-length ∙ omega arith) i 1
-        (λ j h. rw f (getD-replicate (length row) j 1 0 (omega (arith, row-length))))
+        over-const 0 1 cells′ from count row-room i
         ∙ rw (e, flat width y left right i hw hr, t .at i, row-by top y (i / width) (eqb (i / width) y) refl (t .from))
         (merge (inB left right (i % width)) (eqb (i / width) y) (inB top y (i / width)) 1 (getD cells i 0));
   }
     where
-      long : length ys ≡ length row
-      long = rw f (length-replicate (length row) 1)
-
-      e : (y * width + left) + (y * width + right - (y * width + left)) ≡ y * width + right
+      e : from + count ≡ y * width + right
       e = omega arith
+
+  -- the row's part as it comes back
+  pub rows-more : (ys : List ℕ) → ys ≡ replicate (length (take count (drop from cells′))) 1
+      → Rows cells width left right top (take from cells′ ++ (ys ++ drop count (drop from cells′))) (y + 1)
+  rows-more ys f =
+      let g : ys ≡ replicate count 1 = f ∙ ap (λ (n : ℕ). replicate n 1) row-long in
+      let h : take from cells′ ++ (ys ++ drop count (drop from cells′)) ≡ over cells′ from (replicate count 1)
+      = ap (λ (q : List ℕ). take from cells′ ++ (q ++ drop count (drop from cells′))) g ∙ over-part cells′ from count (replicate count 1) (length-replicate {A = ℕ} count 1) in
+      subst (λ (q : List ℕ). Rows cells width left right top q (y + 1)) (sym h) row-laid
 
 -- all rows laid
 pub rows-all : (cells : List ℕ) (width : ℕ) (p : Span) (cells′ : List ℕ) (y : ℕ) → y ≡ p .bottom → Rows cells width (p .left) (p .right) (p .top) cells′ y → Covered width p cells cells′

@@ -1,17 +1,17 @@
 -- Routes past a set: the map that the code lays is the set's, so the route over it is the route past the set. A path that was clear is clear again when the
 -- points of the route are wiped.
-use Prim.Native.Nat.{ℕ, zero, suc, _+_, _*_, _≤_, _<_}
+use Prim.Native.Nat.{ℕ, suc, _+_, _*_, _≤_, _<_}
 use mathlib.Core.Path.{_≡_, refl, sym, ap, ap₂, _∙_}
 use mathlib.Core.Bool.{Bool, true, false, not}
 use mathlib.Core.Option.{Option, none, some}
 use mathlib.Core.List.{List, _∷_, _++_}
 use native.Mathlib.Numerals.{add-one}
-use native.Mathlib.Nat.{not-suc-le-zero, le-of-suc-le-suc}
 use native.Mathlib.Omega.{arith}
 use lib.Dec.{eqb}
 use lib.ListN.{length, getD, take, drop, replicate, length-append, length-drop, length-replicate}
-use lib.Seq.{drop-append-seam, take-all}
+use lib.Seq.{take-all}
 use Rattle.laws.specs.Lists.{allOf, isSome, without, ascends}
+use Rattle.laws.proofs.Stores.{take-replicate, laid-cleared}
 use Rattle.laws.proofs.Turns.{all-more}
 use Rattle.laws.proofs.Tests.{all-false}
 use Rattle.model.specs.declared.Rect.{Rect}
@@ -45,11 +45,6 @@ past-is w steps start end m s cells W H p q e a b =
     ∙ window-route-same (width w) (height w) steps (openIn cells) (leavesOpen m s) (open-is m (centres w) s cells e) start end a b
 
 -- ---- wiping a path
-zeros : (c k : ℕ) → k ≤ c → _≡_ {A = List ℕ} (replicate k 0 ++ drop k (replicate c 0)) (replicate c 0)
-zeros c zero h = refl
-zeros zero (suc k) h = absurd (not-suc-le-zero h)
-zeros (suc c) (suc k) h = ap (λ (l : List ℕ). 0 ∷ l) (zeros c k (le-of-suc-le-suc h))
-
 pub record Wiped (path path′ : List ℕ) (r : ℕ) : Type 0 where
   pub room : r ≤ length path′
   pub clear : replicate r 0 ++ drop r path′ ≡ path
@@ -64,8 +59,8 @@ wiped-by (some p) c path path′ e l s =
     record {
       room = omega arith;
       clear =
-          ap (λ (x : List ℕ). replicate (length p) 0 ++ x) (ap (drop (length p)) l ∙ drop-append-seam p (drop (length p) path) ∙ ap (drop (length p)) e)
-          ∙ zeros c (length p) room ∙ sym e;
+          ap (λ (x : List ℕ). replicate (length p) 0 ++ drop (length p) x) l
+          ∙ laid-cleared 0 c path (ap (take c) e ∙ take-replicate 0 c c (omega arith)) p room;
     }
 
 pub wiped : (o : Option (List ℕ)) (c : ℕ) (path path′ : List ℕ) (r : ℕ) → path ≡ replicate c 0 → Routed o path path′ r → length path′ ≡ length path → Wiped path path′ r

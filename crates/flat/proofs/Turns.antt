@@ -6,11 +6,13 @@ use mathlib.Core.List.{List, _++_, map}
 use lib.IntN.{ℤ, pos}
 use lib.ListN.{length, getD, take, drop, replicate}
 use Rattle.laws.specs.Lists.{flat}
+use Rattle.laws.specs.Fill.{over}
+use Rattle.laws.proofs.Stores.{length-over}
 use Rattle.model.specs.declared.Placement.{Placement}
 use Rattle.layouts.specs.Inputs.{noPlace}
-use Rattle.flat.specs.Rows.{numbersOf, bothOf, put, rowsOf}
+use Rattle.flat.specs.Rows.{numbersOf, bothOf, rowsOf}
 use Rattle.flat.specs.declared.Rows.{Rows}
-use Rattle.flat.proofs.Laying.{length-put, rows-more, rows-none, rows-all}
+use Rattle.flat.proofs.Laying.{rows-more, rows-none, rows-all}
 use Rattle.flat.proofs.Back.{four, eight}
 
 pub record Turn (ys : List Placement) (n : ℕ) (xs : List ℕ) (ws : List ℤ) (i : ℕ) (zs : List ℕ) (es : List ℤ) : Type 0 where
@@ -23,8 +25,8 @@ pub record Turn (ys : List Placement) (n : ℕ) (xs : List ℕ) (ws : List ℤ) 
 -- what laying placement i of ys gives
 pub record Laid (ys : List Placement) (i : ℕ) (zs : List ℕ) (es : List ℤ) (r : ℕ) (zs′ : List ℕ) (es′ : List ℤ) : Type 0 where
   pub next : r ≡ i + 1
-  pub numbers : zs′ ≡ put zs (4 * i) (numbersOf (getD ys i noPlace))
-  pub edges : es′ ≡ put es (8 * i) (bothOf (getD ys i noPlace))
+  pub numbers : zs′ ≡ over zs (4 * i) (numbersOf (getD ys i noPlace))
+  pub edges : es′ ≡ over es (8 * i) (bothOf (getD ys i noPlace))
 
 module _ (ys : List Placement) (n : ℕ) (xs : List ℕ) (ws : List ℤ) where
   pub turn-none : Turn ys n xs ws 0 xs ws
@@ -41,15 +43,15 @@ module _ (ys : List Placement) (n : ℕ) (xs : List ℕ) (ws : List ℤ) where
       → (r : ℕ) (zs′ : List ℕ) (es′ : List ℤ) → Laid ys i zs es r zs′ es′ → Turn ys n xs ws r zs′ es′
   turn-more hn hx hw i zs es h t r zs′ es′ d = record {
     upto = omega (arith, d .next);
-    fours = ap (λ (l : List ℕ). length l) (d .numbers) ∙ length-put zs (4 * i) (numbersOf (getD ys i noPlace))
+    fours = ap (λ (l : List ℕ). length l) (d .numbers) ∙ length-over zs (4 * i) (numbersOf (getD ys i noPlace))
         (omega (arith, four (getD ys i noPlace), t .fours)) ∙ t .fours;
-    eights = ap (λ (l : List ℤ). length l) (d .edges) ∙ length-put es (8 * i) (bothOf (getD ys i noPlace))
+    eights = ap (λ (l : List ℤ). length l) (d .edges) ∙ length-over es (8 * i) (bothOf (getD ys i noPlace))
         (omega (arith, eight (getD ys i noPlace), t .eights)) ∙ t .eights;
-    numbers = d .numbers ∙ ap (λ (l : List ℕ). put l (4 * i) (numbersOf (getD ys i noPlace))) (t .numbers) ∙ rows-more numbersOf 4 four ys noPlace xs
+    numbers = d .numbers ∙ ap (λ (l : List ℕ). over l (4 * i) (numbersOf (getD ys i noPlace))) (t .numbers) ∙ rows-more numbersOf 4 four ys noPlace xs
         i
         (omega arith)
         ∙ ap (λ (k : ℕ). flat (map numbersOf (take k ys)) ++ drop (4 * k) xs) (sym (d .next));
-    edges = d .edges ∙ ap (λ (l : List ℤ). put l (8 * i) (bothOf (getD ys i noPlace))) (t .edges) ∙ rows-more bothOf 8 eight ys noPlace ws i
+    edges = d .edges ∙ ap (λ (l : List ℤ). over l (8 * i) (bothOf (getD ys i noPlace))) (t .edges) ∙ rows-more bothOf 8 eight ys noPlace ws i
         (omega arith)
         ∙ ap (λ (k : ℕ). flat (map bothOf (take k ys)) ++ drop (8 * k) ws) (sym (d .next));
   }

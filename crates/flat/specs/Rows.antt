@@ -1,8 +1,8 @@
 -- A row of placements as two flat rows: four numbers each in one, eight edges each in the other.
-use Prim.Native.Nat.{ℕ, _+_, _*_, _-_}
+use Prim.Native.Nat.{ℕ, _*_, _-_}
 use mathlib.Core.List.{List, [], _∷_, _++_, map}
 use lib.IntN.{ℤ, pos}
-use lib.ListN.{length, take, drop, replicate}
+use lib.ListN.{length, take, replicate}
 use Rattle.laws.specs.Lists.{flat}
 use Rattle.model.specs.declared.Rect.{Rect}
 use Rattle.model.specs.declared.Placement.{Placement}
@@ -16,10 +16,6 @@ edgesOf r = r .left ∷ r .top ∷ r .right ∷ r .bottom ∷ []
 
 unfoldable pub bothOf : Placement → List ℤ
 bothOf p = edgesOf (p .footprint) ++ edgesOf (p .collision)
-
--- an area with ys stored from `at` on
-unfoldable pub put : {A : Type 0} → List A → ℕ → List A → List A
-put xs at ys = (take at xs ++ ys) ++ drop (at + length ys) xs
 
 -- the first 6,145 placements at most, zeros after
 unfoldable pub rowsOf : List Placement → Rows

@@ -9,7 +9,8 @@ ghost use Prim.Native.Nat.{_+_, _*_, _≤_, min};
 ghost use lib.IntN.{pos};
 ghost use lib.ListN.{length, take, drop, replicate};
 ghost use Rattle.laws.specs.Lists.{flat};
-ghost use Rattle.flat.specs.Rows.{numbersOf, edgesOf, bothOf, put, rowsOf};
+ghost use Rattle.laws.specs.Fill.{over};
+ghost use Rattle.flat.specs.Rows.{numbersOf, edgesOf, bothOf, rowsOf};
 
 // How many placements are laid at most: one more than a call takes, so that a call sees where there are too many.
 pub const MOST: usize = 6145;
@@ -21,7 +22,7 @@ pub struct Rows {
 
 fn put_numbers(numbers: &mut [u32], at: usize, p: Placement)
     requires { ⌜ at + 4 ≤ length (now numbers) ⌝ }
-    ensures { λ _. ⌜ now (numbers .exit) ≡ put (now (numbers .entry)) at (numbersOf p) ⌝ }
+    ensures { λ _. ⌜ now (numbers .exit) ≡ over (now (numbers .entry)) at (numbersOf p) ⌝ }
 {
     let tile = p.tile;
     numbers[at] = p.spec;
@@ -32,7 +33,7 @@ fn put_numbers(numbers: &mut [u32], at: usize, p: Placement)
 
 fn put_edges(edges: &mut [i32], at: usize, r: Rect)
     requires { ⌜ at + 4 ≤ length (now edges) ⌝ }
-    ensures { λ _. ⌜ now (edges .exit) ≡ put (now (edges .entry)) at (edgesOf r) ⌝ }
+    ensures { λ _. ⌜ now (edges .exit) ≡ over (now (edges .entry)) at (edgesOf r) ⌝ }
 {
     let left = r.left;
     let top = r.top;
@@ -47,7 +48,7 @@ fn put_edges(edges: &mut [i32], at: usize, r: Rect)
 // One placement's numbers and edges; the next index.
 fn lay(numbers: &mut [u32], edges: &mut [i32], i: usize, p: Placement) -> usize
     requires { ⌜ (4 * i + 4 ≤ length (now numbers)) × (8 * i + 8 ≤ length (now edges)) ⌝ }
-    ensures { λ r. ⌜ (r ≡ i + 1) × ((now (numbers .exit) ≡ put (now (numbers .entry)) (4 * i) (numbersOf p)) × (now (edges .exit) ≡ put (now (edges .entry)) (8 * i) (bothOf p))) ⌝ }
+    ensures { λ r. ⌜ (r ≡ i + 1) × ((now (numbers .exit) ≡ over (now (numbers .entry)) (4 * i) (numbersOf p)) × (now (edges .exit) ≡ over (now (edges .entry)) (8 * i) (bothOf p))) ⌝ }
 {
     let at = EDGES * i;
     put_numbers(numbers, NUMBERS * i, p);

@@ -19,7 +19,7 @@ use Rattle.search.proofs.Formed.{Lines}
 use Rattle.calls.specs.Areas.{laid, row, numbers, recordOf}
 use Rattle.calls.proofs.Back.{length-numbers}
 use Rattle.rows.proofs.Stores.{padded-add, padded-set, padded-trail, padded-free}
-use Rattle.rows.proofs.Blocks.{flat-snoc, length-flat}
+use Rattle.laws.proofs.Blocks.{flat-snoc, length-flat}
 use Rattle.turns.specs.Held.{stackOf, enteredRec, pushedRec, listedRec}
 use Rattle.turns.proofs.Laying.{longs, nexts, made-snoc, length-made, stack-snoc, length-stack}
 

@@ -6,13 +6,13 @@ use mathlib.Core.List.{List, [], _∷_, _++_, map, reverse, reverse-reverse, Lis
 use native.Mathlib.Omega.{arith}
 use native.Mathlib.Nat.{mul-le-mul-right}
 use lib.Dec.{leb, eqb}
-use lib.ListN.{length, take, drop, getD, replicate, length-take, length-drop, replicate-append-replicate}
-use lib.Seq.{getD-take, drop-at}
+use lib.ListN.{length, take, drop, getD, replicate, length-take, length-drop}
+use lib.Seq.{getD-take}
 use borrow.Author.Tests.{leb-true, leb-false, eqb-true, eqb-false}
 use Rattle.laws.specs.Lists.{flat}
 use Rattle.laws.specs.Fill.{zeros, over}
 use Rattle.laws.proofs.Members.{either, getD-member}
-use Rattle.laws.proofs.Stores.{length-zeros, drop-zeros}
+use Rattle.laws.proofs.Stores.{length-zeros, take-replicate, laid-cleared, part-same}
 use Rattle.model.specs.declared.Record.{Record}
 use Rattle.rects.specs.Windows.{centres}
 use Rattle.rects.proofs.Windows.{framed}
@@ -27,7 +27,7 @@ use Rattle.search.proofs.Formed.{Lines, lines-fit, length-setOn}
 use Rattle.calls.specs.Areas.{Store, laid, row, numbers, pointsLength}
 use Rattle.calls.specs.Calls.{planOf}
 use Rattle.rows.specs.Lay.{Stood, SomeStood}
-use Rattle.rows.proofs.Blocks.{length-flat}
+use Rattle.laws.proofs.Blocks.{length-flat}
 use Rattle.rows.proofs.Sets.{length-row, row-head}
 use Rattle.turns.specs.Held.{stackOf, Part, Ripe, keptIn, Listable, LookedAt, Listing, enteredRec, pushedRec, listedRec, stopRec}
 use Rattle.turns.proofs.Laying.{Summed, summed, as-pending, length-stack}
@@ -38,16 +38,13 @@ use Rattle.explore.specs.Evaluation.{outcomeOf, numberOf, sizeOf, listAfter, pa
 use Rattle.frames.specs.Kept.{Terms, store, inputsIn, countIn, boardIn, planIn, Given, Holds}
 use Rattle.frames.proofs.Inside.{wall-inside}
 use Rattle.frames.proofs.Stored.{kept-is, length-kept, members-of}
-use Rattle.frames.proofs.Whole.{part-same, fitting, points-fit, holds-part, layouts-are, points-are, entered, visited-put, visited-room, lists-are, v-nothing, v-extend, extend-room, extend-record, extend-lists, v-full, wall-room, v-wall}
+use Rattle.frames.proofs.Whole.{fitting, points-fit, holds-part, layouts-are, points-are, entered, visited-put, visited-room, lists-are, v-nothing, v-extend, extend-room, extend-record, extend-lists, v-full, wall-room, v-wall}
 
 -- a wall's route laid into a clear area and wiped
 pub path-wiped : (c k : ℕ) (w path path′ path″ : List ℕ) → path ≡ replicate c 0 → path′ ≡ w ++ drop (length w) path → k ≡ length w → k ≤ c → path″ ≡ zeros k ++ drop k path′ → path″ ≡ replicate c 0
 path-wiped c k w path path′ path″ e f q h d =
-    d
-    ∙ ap (λ (x : List ℕ). zeros k ++ drop k x) (f ∙ ap (λ (x : List ℕ). w ++ drop (length w) x) e)
-    ∙ ap (λ (x : List ℕ). zeros k ++ x) (drop-at w (drop (length w) (zeros c)) k (sym q) ∙ drop-zeros (length w) c)
-    ∙ replicate-append-replicate {A = ℕ} k (c - length w) 0
-    ∙ ap zeros (let z : k + (c - length w) ≡ c = omega arith in z)
+    let clear : take c path ≡ replicate c 0 = ap (take c) e ∙ take-replicate 0 c c (omega arith) in
+    d ∙ ap₂ (λ (n : ℕ) (x : List ℕ). zeros n ++ drop n x) q f ∙ laid-cleared 0 c path clear w (omega arith) ∙ e
 
 pub by-ripe : (p : Plan) (P : State → Type 0) → ((ls : List Extensions) (v : List (List ℕ)) (ys : List Layout) → Fresh p ls v → P (held Running true ls v ys)) → (s : State) → Ripe p s → P s
 by-ripe p P f s x = as-pending (λ s. Fresh p (s .lists) (s .visited) → P s) true f s (x .running) (x .pending) (x .fresh)

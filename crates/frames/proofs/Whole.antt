@@ -9,7 +9,7 @@ use native.Mathlib.Nat.{mul-le-mul-right}
 use lib.ListN.{length, take, drop, length-map, take-append-drop}
 use Rattle.laws.specs.Lists.{flat, padded}
 use Rattle.laws.specs.Fill.{zeros, over}
-use Rattle.laws.proofs.Stores.{drop-zeros, length-padded, over-part}
+use Rattle.laws.proofs.Stores.{drop-replicate, length-padded, over-part, part-same}
 use Rattle.model.specs.declared.Position.{Position}
 use Rattle.model.specs.declared.Record.{Record}
 use Rattle.model.specs.declared.Allow.{Allow}
@@ -33,11 +33,6 @@ use Rattle.turns.proofs.Turns.{good-ends}
 use Rattle.frames.specs.Kept.{Terms, store, inputsIn, countIn, boardIn, planIn, Given, Holds, Held}
 use Rattle.frames.proofs.Stored.{rows-put, record-entered, record-pushed, record-listed, points-put, place-free, lists-pushed}
 use Rattle.layouts.specs.Flat.{inputsOf}
-
--- a part that comes back as it was
-pub part-same : (l : List ℕ) (at k : ℕ) (ys : List ℕ) → ys ≡ take k (drop at l) → take at l ++ (ys ++ drop k (drop at l)) ≡ l
-part-same l at k ys e =
-    ap (λ (q : List ℕ). take at l ++ (q ++ drop k (drop at l))) e ∙ ap (λ (q : List ℕ). take at l ++ q) (take-append-drop k (drop at l)) ∙ take-append-drop at l
 
 -- ---- all areas, or the lists and the visited rows
 module _ (t : Terms) where
@@ -240,7 +235,7 @@ module _ (t : Terms) (given : Given t) (a₀ : Store) (ls : List Extensions) (v 
       let room = extend-room xs e n in
       let free : take k (drop at (a .lists)) ≡ zeros c =
       ap (λ (j : ℕ). take j (drop at (a .lists))) ek ∙ free-place at (room .0) (ea (room .0)) in
-      let q : list ≡ padded c xs = el ∙ ap (λ (z : List ℕ). xs ++ drop (length xs) z) free ∙ ap (λ (z : List ℕ). xs ++ z) (drop-zeros (length xs) c) in
+      let q : list ≡ padded c xs = el ∙ ap (λ (z : List ℕ). xs ++ drop (length xs) z) free ∙ ap (λ (z : List ℕ). xs ++ z) (drop-replicate 0 (length xs) c) in
       let l : length list ≡ k = ap (λ (z : List ℕ). length z) q ∙ length-padded c xs (room .1) ∙ sym ek in
       over-part (a .lists) at k list l ∙ ap (λ (z : List ℕ). over (a .lists) at z) q ∙ pushed-lists at xs (room .0) (ea (room .0)) (room .1)
 

@@ -17,7 +17,7 @@ use Rattle.layouts.specs.Inputs.{Inputs, boardOf}
 use Rattle.layouts.specs.Judge.{verdict, groundLeft}
 use Rattle.calls.specs.Areas.{Work, workIn, laid, cleared}
 use Rattle.calls.specs.Calls.{Judgement, refuses, judges, judgeChecks, judgeCall}
-use Rattle.clearing.proofs.Cleared.{laid-none}
+use Rattle.calls.proofs.Back.{laid-clear}
 use Rattle.explore.specs.Ready.{Ready}
 use Rattle.explore.proofs.Extending.{named-rows}
 use Rattle.verdict.specs.Flags.{Counted}
@@ -54,32 +54,15 @@ pub counted : {q : Query} {groups numbers : List ℕ} {edges : List ℤ} {blockB
 counted c e = record { fits = c .fits; slim = c .slim; bytes = c .bytes; named = named-rows (c .rows); clear = e }
 
 -- ---- the areas
-take-laid : (n : ℕ) (area area′ : List ℕ) → area′ ≡ laid n [] area → take n area′ ≡ replicate n 0
-take-laid n area area′ e = ap (take n) (e ∙ laid-none n area) ∙ take-at (replicate n 0) (drop n area) n (length-replicate {A = ℕ} n 0)
-
 pub clean-work : (w : Rect) (a b : Work) → b ≡ cleared w a → Clean (centres w) (b .map) (b .queue) (b .predecessors) (b .route)
 unfolding cleared
 clean-work w a b e = record {
-  mapClear = take-laid (centres w) (a .map) (b .map) (ap (λ (x : Work). x .map) e);
-  queueClear = take-laid (centres w) (a .queue) (b .queue) (ap (λ (x : Work). x .queue) e);
-  previousClear = take-laid (centres w) (a .predecessors) (b .predecessors) (ap (λ (x : Work). x .predecessors) e);
-  pathClear = take-laid (centres w) (a .route) (b .route) (ap (λ (x : Work). x .route) e);
+  mapClear = ap (λ (x : Work). take (centres w) (x .map)) e ∙ laid-clear (centres w) (a .map);
+  queueClear = ap (λ (x : Work). take (centres w) (x .queue)) e ∙ laid-clear (centres w) (a .queue);
+  previousClear = ap (λ (x : Work). take (centres w) (x .predecessors)) e ∙ laid-clear (centres w) (a .predecessors);
+  pathClear = ap (λ (x : Work). take (centres w) (x .route)) e ∙ laid-clear (centres w) (a .route);
 }
 
 pub same-work : {counts : List ℤ} {map queue previous path map′ queue′ previous′ path′ : List ℕ} → Same map queue previous path map′ queue′ previous′ path′
     → workIn counts map′ queue′ previous′ path′ ≡ workIn counts map queue previous path
 same-work {counts} s = λ j. record { counts = counts; map = s .mapSame j; queue = s .queueSame j; predecessors = s .previousSame j; route = s .pathSame j }
-
--- a part of n entries that is zero before and after, where n is c
-module _ (n c : ℕ) (e : n ≡ c) (area : List ℕ) (clear : take c area ≡ replicate c 0) where
-  pub part-fits : n ≤ length area
-  part-fits = omega (arith, ap (λ (x : List ℕ). length x) clear, length-take c area, length-replicate {A = ℕ} c 0)
-
-  pub part-size : n ≡ length (take n area)
-  part-size = omega (arith, part-fits, length-take n area)
-
-  pub part-clear : take n area ≡ replicate c 0
-  part-clear = ap (λ (k : ℕ). take k area) e ∙ clear
-
-  pub part-back : (part : List ℕ) → part ≡ replicate c 0 → part ++ drop n area ≡ area
-  part-back part f = ap (λ (x : List ℕ). x ++ drop n area) (f ∙ sym part-clear) ∙ take-append-drop n area

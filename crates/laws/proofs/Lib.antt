@@ -8,3 +8,4 @@ pub mod Fill
 pub mod Tests
 pub mod Tables
 pub mod Turns
+pub mod Blocks

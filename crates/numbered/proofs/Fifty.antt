@@ -1,17 +1,19 @@
 -- The search record as fifty numbers: how it is laid, and read back.
 use Prim.Native.Nat.{ℕ, _+_, _≤_, _<_}
-use mathlib.Core.Path.{_≡_, refl, sym, _∙_, ap, ap₂}
-use mathlib.Core.Bool.{Bool, true, false, _&&_}
+use mathlib.Core.Path.{_≡_, refl, sym, _∙_, ap}
+use mathlib.Core.Bool.{Bool, true, false}
 use mathlib.Core.Option.{Option, none, some}
-use mathlib.Core.List.{List, [], _∷_, _++_, append-assoc}
+use mathlib.Core.List.{List, _++_, append-assoc}
 use native.Mathlib.Omega.{arith}
 use lib.Dec.{leb, eqb}
 use lib.ListN.{length, getD, take, drop, length-append, length-drop, length-map}
-use lib.Seq.{take-at, drop-at, drop-drop, length-take-le}
+use lib.Seq.{take-all, take-at, drop-at, drop-drop}
 use borrow.Author.Tests.{leb-true, leb-false, lt-leb, le-leb}
 use mir.Val.{Val}
 use denote.Laws.{Is}
+use Rattle.laws.specs.Fill.{over}
 use Rattle.laws.proofs.Members.{either}
+use Rattle.laws.proofs.Stores.{over-lent, over-after}
 use Rattle.model.specs.Answers.{Said}
 use Rattle.model.specs.declared.Record.{Record}
 use Rattle.model.proofs.Record as Recordᵀ
@@ -54,34 +56,16 @@ record-shape r vs g = record {
   nexts = sym (length-map (r .nexts) (λ (v : ℕ). v)) ∙ g .1 .1 .1 .1 .1 .1 .1 .1 .1 .1 .0 .1 .0 .1;
 }
 
-pub part-long : (xs : List ℕ) (a n : ℕ) → a + n ≤ length xs → length (take n (drop a xs)) ≡ n
-part-long xs a n h = length-take-le n (drop a xs) (omega (arith, length-drop a xs))
-
--- a row laid after those before it
-next-row : (xs ys l : List ℕ) (a n : ℕ) → length xs ≡ a → take a (xs ++ drop a l) ++ (ys ++ drop n (drop a (xs ++ drop a l))) ≡ (xs ++ ys) ++ drop (a + n) l
-next-row xs ys l a n e =
-    ap₂ (λ (p q : List ℕ). p ++ (ys ++ drop n q)) (take-at xs (drop a l) a e) (drop-at xs (drop a l) a e)
-    ∙ ap (λ (q : List ℕ). xs ++ (ys ++ q)) (drop-drop n a l)
-    ∙ sym (append-assoc xs ys (drop (a + n) l))
-
--- the list with ys in the place of its n entries from a on
-abbrev pub with-row : ℕ → ℕ → List ℕ → List ℕ → List ℕ
-with-row a n xs ys = take a xs ++ (ys ++ drop n (drop a xs))
-
-rows-laid : (h a b c l : List ℕ) → length h ≡ 6 → length a ≡ 32 → length b ≡ 6
-    → with-row 44 6 (with-row 38 6 (with-row 6 32 (h ++ drop 6 l) a) b) c ≡ h ++ a ++ b ++ c ++ drop 50 l
-rows-laid h a b c l eh ea eb =
-    ap (λ (x : List ℕ). with-row 44 6 (with-row 38 6 x b) c) (next-row h a l 6 32 eh)
-    ∙ ap (λ (x : List ℕ). with-row 44 6 x c) (next-row (h ++ a) b l 38 6 (omega (arith, length-append h a)))
-    ∙ next-row (h ++ a ++ b) c l 44 6 (omega (arith, length-append (h ++ a) b, length-append h a))
-
-pub record-laid : (r : Record) (l h a b c : List ℕ) → Shape r
-    → h ≡ r .reason ∷ r .evaluations ∷ r .placements ∷ r .layouts ∷ r .lists ∷ oneWhere (r .pending) ∷ [] → a ≡ r .routes → b ≡ r .lengths → c ≡ r .nexts
-    → with-row 44 6 (with-row 38 6 (with-row 6 32 (h ++ drop 6 l) a) b) c ≡ numbersOf r ++ drop 50 l
-unfolding numbersOf
-record-laid r l h a b c s eh ea eb ec =
-    rows-laid h a b c l (ap (λ (x : List ℕ). length x) eh) (ap (λ (x : List ℕ). length x) ea ∙ s .routes) (ap (λ (x : List ℕ). length x) eb ∙ s .lengths)
-    ∙ rw (eh, ea, eb, ec)
+-- a row copied into the part that is lent after the rows before it
+pub next-row : (l xs row : List ℕ) (at n : ℕ) {x ys : List ℕ} → length xs ≡ at → length row ≡ n → at + n ≤ length l → x ≡ xs ++ drop at l
+    → ys ≡ take n row ++ drop n (take n (drop at x)) → take at x ++ (ys ++ drop n (drop at x)) ≡ (xs ++ row) ++ drop (at + n) l
+next-row l xs row at n {x} {ys} exs er room ex e =
+    let long : at + n ≤ length x = omega (arith, ap (λ (q : List ℕ). length q) ex, length-append xs (drop at l), length-drop at l) in
+    ap (λ (q : List ℕ). take at x ++ (q ++ drop n (drop at x))) (e ∙ ap (λ (q : List ℕ). q ++ drop n (take n (drop at x))) (take-all n row (omega arith)))
+    ∙ over-lent x at n n row er (omega arith) long
+    ∙ ap (λ (q : List ℕ). over q at row) ex
+    ∙ over-after xs (drop at l) row at exs
+    ∙ ap (λ (q : List ℕ). (xs ++ row) ++ q) (drop-drop (length row) at l ∙ ap (λ (k : ℕ). drop (at + k) l) er)
 
 pub left-short : (o : Option Said) (r : Record) (ns : List ℕ) → length ns < 50 → ns ≡ leftIn o r ns
 unfolding leftIn

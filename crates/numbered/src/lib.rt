@@ -85,19 +85,6 @@ pub fn query_from(
     }
 }
 
-// The numbers of one become those of the other.
-fn copy(to: &mut [u32], from: &[u32])
-    requires { ⌜ length (now to) ≡ length (now from) ⌝ }
-    ensures { λ r. ⌜ now (to .exit) ≡ now (from .entry) ⌝ }
-{
-    let n = from.len();
-    let mut i = 0;
-    while i < n {
-        to[i] = from[i];
-        i += 1;
-    }
-}
-
 // The record of no search.
 fn no_record() -> Record
     ensures { λ r. ⌜ r ≡ noRecord ⌝ }
@@ -123,9 +110,9 @@ fn record_of(rec: &[u32]) -> Record
     let mut routes = [0u32; 32];
     let mut lengths = [0u32; 6];
     let mut nexts = [0u32; 6];
-    copy(&mut routes, &rec[6..38]);
-    copy(&mut lengths, &rec[38..44]);
-    copy(&mut nexts, &rec[44..50]);
+    areas::copy_u32(&mut routes, &rec[6..38], 32);
+    areas::copy_u32(&mut lengths, &rec[38..44], 6);
+    areas::copy_u32(&mut nexts, &rec[44..50], 6);
     Record {
         reason: rec[0],
         evaluations: rec[1],
@@ -177,10 +164,10 @@ fn put_record(rec: &mut [u32], r: Record)
     let routes = r.routes;
     let lengths = r.lengths;
     let nexts = r.nexts;
-    copy(&mut rec[0..6], &head);
-    copy(&mut rec[6..38], &routes);
-    copy(&mut rec[38..44], &lengths);
-    copy(&mut rec[44..50], &nexts);
+    areas::copy_u32(&mut rec[0..6], &head, 6);
+    areas::copy_u32(&mut rec[6..38], &routes, 32);
+    areas::copy_u32(&mut rec[38..44], &lengths, 6);
+    areas::copy_u32(&mut rec[44..50], &nexts, 6);
 }
 
 // How much of the visited area is lent on: nothing where the record is too short, so that the call turns that away in its place.

@@ -8,9 +8,9 @@ use Prim.Native.Nat.{ℕ, _+_, _-_, _*_, _≤_}
 use native.Mathlib.Omega.{arith}
 use lib.Dec.{ltb}
 use borrow.Author.Tests.{lt-ltb}
-use lib.ListN.{length, take, drop, replicate, length-append, length-replicate, replicate-append-replicate, take-append-drop}
-use lib.Seq.{take-at, take-take, drop-append-seam}
+use lib.ListN.{length, take, drop, replicate, length-append}
 use Rattle.laws.specs.Lists.{isSome}
+use Rattle.laws.proofs.Stores.{laid-cleared}
 use Rattle.model.specs.Answers.{Said, refusal, ask, first}
 use Rattle.model.specs.declared.Rect.{Rect}
 use Rattle.model.specs.declared.Position.{Position}
@@ -58,24 +58,12 @@ module _ (steps : List Step) (w : Rect) (start end : Position) (base : List ℕ)
   pub route-fits : windowFits 8192 8192 w ≡ true → inWindow w start ≡ true → pointsOf (routeOver steps w start end base) ≤ centres w
   route-fits h i = fits h i (routeOver steps w start end base) refl
 
--- the first n of some zeros
-zeros-first : (n m : ℕ) → n ≤ m → take {A = ℕ} n (replicate m 0) ≡ replicate n 0
-zeros-first n m h =
-    let e : n + (m - n) ≡ m = omega arith in
-    ap (λ (k : ℕ). take {A = ℕ} n (replicate k 0)) (sym e)
-    ∙ ap (take {A = ℕ} n) (sym (replicate-append-replicate n (m - n) 0))
-    ∙ take-at (replicate n 0) (replicate (m - n) 0) n (length-replicate n 0)
-
--- an area of zeros is as it was when what was laid into it is cleared
-pub laid-cleared : (c : ℕ) (path : List ℕ) → take c path ≡ replicate c 0 → (o : Option (List ℕ)) → pointsOf o ≤ c
+-- an area of zeros is as it was when the route that was laid into it is cleared
+route-cleared : (c : ℕ) (path : List ℕ) → take c path ≡ replicate c 0 → (o : Option (List ℕ)) → pointsOf o ≤ c
     → replicate (pointsOf o) 0 ++ drop (pointsOf o) (laidInto o path) ≡ path
 unfolding pointsOf laidInto
-laid-cleared c path z none h = refl
-laid-cleared c path z (some r) h =
-    let first : take (length r) path ≡ replicate (length r) 0 = sym (take-take (length r) c path h) ∙ ap (take (length r)) z ∙ zeros-first (length r) c h in
-    ap (λ (l : List ℕ). replicate (length r) 0 ++ l) (drop-append-seam r (drop (length r) path))
-    ∙ ap (λ (l : List ℕ). l ++ drop (length r) path) (sym first)
-    ∙ take-append-drop (length r) path
+route-cleared c path z none h = refl
+route-cleared c path z (some r) h = laid-cleared 0 c path z r h
 
 -- ---- the call of the search for a route, on areas that are ready
 module _ (steps : List Step) {w : Rect} {start end : Position} {base queue previous path : List ℕ} (r : Ready w start end base queue previous path)
@@ -125,4 +113,4 @@ module _ (steps : List Step) {w : Rect} {start end : Position} {base queue previ
     pub path-restored : replicate k 0 ++ drop k path′ ≡ path
     path-restored =
         rw (found .count, found .points)
-        (laid-cleared (centres w) path (r .pathClear) (routeOver steps w start end base) (route-fits steps w start end base (r .window) (r .startIn)))
+        (route-cleared (centres w) path (r .pathClear) (routeOver steps w start end base) (route-fits steps w start end base (r .window) (r .startIn)))

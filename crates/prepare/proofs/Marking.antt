@@ -8,6 +8,7 @@ use native.Mathlib.Omega.{arith}
 use lib.IntN.{ℤ, pos}
 use lib.ListN.{length, take, drop, replicate, length-append, length-replicate}
 use lib.Seq.{take-at, drop-at}
+use Rattle.laws.proofs.Stores.{front-cleared}
 use Rattle.model.specs.Answers.{first, replyOf}
 use Rattle.model.specs.declared.Rect.{Rect}
 use Rattle.model.specs.declared.Refusal.{Refusal}
@@ -22,8 +23,9 @@ use Rattle.ground.proofs.Marks.{mapped}
 use Rattle.routes.specs.Edges.{Step, eightSteps}
 use Rattle.calls.specs.Areas.{Work, workIn, countsLength, laid, cleared}
 use Rattle.calls.specs.Calls.{Preparation, prepareChecks, prepareCall}
+use Rattle.calls.proofs.Back.{laid-none}
 use Rattle.passage.specs.Passages.{passageOver, Ready}
-use Rattle.prepare.proofs.Preparing.{passed, marksOf, length-baseline, laid-whole, laid-none, preparedBy, prepared-by}
+use Rattle.prepare.proofs.Preparing.{passed, marksOf, length-baseline, laid-whole, preparedBy, prepared-by}
 
 -- a map that fits has at most 8,192 pixels each way, and its window fits one of 8,192 square
 pixels : (m : Map) → mapFits m ≡ true → (8 * m .across ≤ 8192) × (8 * m .down ≤ 8192)
@@ -31,10 +33,6 @@ pixels m e = let k = mapped m e in (omega arith, omega arith)
 
 pub window-wide : (m : Map) (w : Rect) → mapFits m ≡ true → windowFits (8 * m .across) (8 * m .down) w ≡ true → windowFits 8192 8192 w ≡ true
 window-wide m w e f = let k = pixels m e in fits-larger (8 * m .across) (8 * m .down) 8192 8192 w (k .0) (k .1) f
-
--- an area whose first n entries were cleared begins with n zeros
-zeros-first : (n : ℕ) (area area′ : List ℕ) → area′ ≡ replicate n 0 ++ drop n area → take n area′ ≡ replicate n 0
-zeros-first n area area′ e = ap (take n) e ∙ take-at (replicate n 0) (drop n area) n (length-replicate n 0)
 
 -- the working areas with so many entries of each cleared
 pub record Emptied (w : Rect) (a a′ : Work) (c : ℕ) : Type 0 where
@@ -120,9 +118,9 @@ module _ (q : Preparation) (b : List ℕ) (a : Work) (e : first (prepareChecks q
             startIn = p .startIn;
             endIn = p .endIn;
             baseRoom = omega (arith, part-length, counted);
-            queueClear = subst (λ (n : ℕ). take n queue ≡ replicate n 0) counted (zeros-first (x * h) (a .queue) queue eq);
-            previousClear = subst (λ (n : ℕ). take n predecessors ≡ replicate n 0) counted (zeros-first (x * h) (a .predecessors) predecessors ep);
-            pathClear = subst (λ (n : ℕ). take n route ≡ replicate n 0) counted (zeros-first (x * h) (a .route) route er);
+            queueClear = subst (λ (n : ℕ). take n queue ≡ replicate n 0) counted (ap (take (x * h)) eq ∙ front-cleared 0 (x * h) (drop (x * h) (a .queue)));
+            previousClear = subst (λ (n : ℕ). take n predecessors ≡ replicate n 0) counted (ap (take (x * h)) ep ∙ front-cleared 0 (x * h) (drop (x * h) (a .predecessors)));
+            pathClear = subst (λ (n : ℕ). take n route ≡ replicate n 0) counted (ap (take (x * h)) er ∙ front-cleared 0 (x * h) (drop (x * h) (a .route)));
           }
 
       -- once the passage is checked

@@ -82,16 +82,12 @@ pub length-baseline : (q : Preparation) → length (marksOf q) ≡ centres (q .w
 unfolding baselineOf
 length-baseline q = length-map (below (centres (q .window))) _ ∙ length-below (centres (q .window))
 
--- what stands in an area that is used whole, and in one that is not used
+-- what stands in an area that is used whole
 pub laid-whole : (n : ℕ) (used area : List ℕ) → length used ≡ n → laid n used area ≡ used ++ drop n area
 unfolding laid padded
 laid-whole n used area e =
     let z : n - length used ≡ 0 = omega arith in
     ap (λ (k : ℕ). (used ++ replicate k 0) ++ drop n area) z ∙ ap (λ (l : List ℕ). l ++ drop n area) (append-nil used)
-
-pub laid-none : (n : ℕ) (area : List ℕ) → laid n [] area ≡ replicate n 0 ++ drop n area
-unfolding laid padded
-laid-none n area = let z : n - 0 ≡ n = omega arith in ap (λ (k : ℕ). replicate k 0 ++ drop n area) z
 
 -- by the answer of checks 7 to 9 over the baseline
 unfoldable pub preparedBy : Preparation → List ℕ → Work → Option Said → Prepared

@@ -1,3 +1,4 @@
 pub mod Puts
-pub mod Laying
+pub mod Digits
+pub mod Lines
 pub mod Back

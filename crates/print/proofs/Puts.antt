@@ -7,10 +7,13 @@ use native.Mathlib.Omega.{arith}
 use native.Mathlib.Nat.{div-add-mod', mod-lt, div-lt-self}
 use native.Mathlib.Numerals.{add-one}
 use lib.Dec.{leb, ltb}
-use borrow.Author.Tests.{le-leb, lt-leb, leb-true, leb-false, ltb-true, ltb-false}
+use borrow.Author.Tests.{lt-leb, leb-true, leb-false, ltb-true, ltb-false}
 use lib.ListN.{length, set, length-append}
 use lib.Seq.{sets, length-sets}
-use Rattle.text.specs.Forms.{Form, decimal, signed, number}
+use Rattle.laws.specs.Fill.{over}
+use Rattle.laws.proofs.Ints.{leb-iff}
+use Rattle.laws.proofs.Stores.{over-sets}
+use Rattle.text.specs.Forms.{Form, decimal, signed}
 use Rattle.text.proofs.Decimals.{one-digit, digit-more, signed-plain, signed-minus}
 use Rattle.print.specs.Writing.{Put, Writes}
 use Rattle.print.specs.declared.Written.the-variants as written
@@ -25,6 +28,10 @@ put-then v w before mid out at i n h k = record {
   text = k .text ∙ ap (λ (l : List ℕ). sets l i w) (h .text) ∙ ap (λ (m : ℕ). sets (sets before at v) m w) (h .ends) ∙ sym (sets-append v w before at);
   ends = (let a : i ≡ at + length v = h .ends in let b : n ≡ i + length w = k .ends in omega (arith, length-append v w));
 }
+
+-- a part stored
+pub put-over : (w before out : List ℕ) (at n : ℕ) → at + length w ≤ length before → out ≡ over before at w → n ≡ at + length w → Put w before at out n
+put-over w before out at n room e ends = record { text = e ∙ sym (over-sets before at w room); ends = ends }
 
 pub put-byte : (c : ℕ) (before : List ℕ) (at : ℕ) → Put (c ∷ []) before at (set before at c) (at + 1)
 put-byte c before at = record { text = refl; ends = refl }
@@ -109,11 +116,7 @@ pub room-beyond : (long at n : ℕ) → long < at → false ≡ leb (at + n) lon
 room-beyond long at n h = sym (lt-leb (at + n) long (omega arith))
 
 pub room-left : (long at n : ℕ) → at ≤ long → leb n (long - at) ≡ leb (at + n) long
-room-left long at n h = go (leb (at + n) long) refl
-  where
-    go : (t : Bool) → leb (at + n) long ≡ t → leb n (long - at) ≡ t
-    go true e = le-leb n (long - at) (omega (arith, leb-true (at + n) long e))
-    go false e = lt-leb n (long - at) (omega (arith, leb-false (at + n) long e))
+room-left long at n h = leb-iff n (long - at) (at + n) long (λ k. omega arith) (λ k. omega arith)
 
 -- a number has at most one digit more than its value
 short-by : (t n : ℕ) → n < t → length (decimal n) ≤ n + 1

@@ -101,12 +101,8 @@ pub fn put_word(out: &mut [u8], at: usize, bytes: &[u8]) -> Written
     if !has_room(out.len(), at, bytes.len()) {
         return Written::NoRoom;
     }
-    let mut k = 0;
-    while k < bytes.len() {
-        out[at + k] = bytes[k];
-        k = k + 1;
-    }
-    Written::At(at + k)
+    areas::copy_u8(&mut out[at..], bytes, bytes.len());
+    Written::At(at + bytes.len())
 }
 
 // Whether there is a value, and each is of a digit.

@@ -15,7 +15,7 @@ use Rattle.model.specs.declared.Position.{Position}
 use Rattle.model.specs.declared.Record.{Record}
 use Rattle.search.specs.State.{Reason, Running, Exhausted, StateLimit, ResultLimit}
 use Rattle.calls.specs.Areas.{Store, reasonOf, rowOf, positions}
-use Rattle.calls.proofs.Clearing.{flat-snoc, length-rowOf}
+use Rattle.calls.proofs.Clearing.{flat-more, length-rowOf}
 use Rattle.calls.proofs.Whole.{total-mono}
 use Rattle.text.specs.Forms.{decimal}
 use Rattle.text.specs.Patterns.{bytes, is}
@@ -47,7 +47,7 @@ unfolding flat below span
 blocks-short f c zero h = omega arith
 blocks-short f c (suc n) h =
     let i : length (flat (map f (below n))) ≤ n * c = blocks-short f c n (λ k l. h k (omega arith)) in
-    omega (arith, h n (omega arith), suc-mul n c, ap length (flat-snoc f n), length-append (flat (map f (below n))) (f n))
+    omega (arith, h n (omega arith), suc-mul n c, ap length (flat-more f n), length-append (flat (map f (below n))) (f n))
 
 gap-long : (k : ℕ) (w : List ℕ) → length (gap k w) ≤ suc (length w)
 unfolding gap
@@ -203,7 +203,7 @@ module _ (count : ℕ) (routes layouts points : List ℕ) (w : Writable count ro
       omega (
         arith,
         total-next routes n,
-        ap length (flat-snoc (rowText routes layouts points) n),
+        ap length (flat-more (rowText routes layouts points) n),
         length-append (flat (map (rowText routes layouts points) (below n))) (rowText routes layouts points n),
       )
 

@@ -1,13 +1,13 @@
 -- Areas whose first entries are zero, and a search that stops nowhere.
-use mathlib.Core.Path.{_≡_, refl, sym, ap, _∙_}
+use mathlib.Core.Path.{_≡_, sym, ap, _∙_}
 use mathlib.Core.Bool.{false}
-use mathlib.Core.List.{List, _∷_, _++_}
-use Prim.Native.Nat.{ℕ, zero, suc, _≤_, _<_}
-use native.Mathlib.Nat.{min-le-right, not-suc-le-zero, le-of-suc-le-suc}
+use mathlib.Core.List.{List}
+use Prim.Native.Nat.{ℕ, _≤_, _<_}
+use native.Mathlib.Nat.{min-le-right}
 use native.Mathlib.Omega.{arith}
 use borrow.Author.Tests.{ne-eqb}
 use lib.ListN.{length, getD, replicate, length-take, length-replicate, getD-replicate}
-use lib.Seq.{getD-take, take-at}
+use lib.Seq.{getD-take}
 use Rattle.route.specs.Areas.{Clear}
 use Rattle.route.specs.Results.{StopsAt}
 
@@ -16,16 +16,6 @@ clear-room c area e = let l = sym (length-take c area) ∙ ap length e ∙ lengt
 
 pub clear-at : (c : ℕ) (area : List ℕ) → Clear c area → (v : ℕ) → v < c → getD area v 0 ≡ 0
 clear-at c area e v h = sym (getD-take c area v 0 h) ∙ ap (λ (l : List ℕ). getD l v 0) e ∙ getD-replicate c v 0 0 h
-
--- an area that begins with c zeros
-pub clear-front : (c : ℕ) (rest : List ℕ) → Clear c (replicate c 0 ++ rest)
-clear-front c rest = take-at (replicate c 0) rest c (length-replicate c 0)
-
--- an area of at least c zeros
-pub clear-zeros : (c n : ℕ) → c ≤ n → Clear c (replicate n 0)
-clear-zeros zero n h = refl
-clear-zeros (suc c) zero h = absurd (not-suc-le-zero h)
-clear-zeros (suc c) (suc n) h = ap (λ (l : List ℕ). 0 ∷ l) (clear-zeros c n (le-of-suc-le-suc h))
 
 -- with an end past the last centre the search stops nowhere
 pub stops-nowhere : (c : ℕ) → StopsAt c c (λ (v : ℕ). false)

@@ -9,5 +9,4 @@ pub mod Clears
 pub mod Simulation
 pub mod Searching
 pub mod Walks
-pub mod Wiping
 pub mod Routing

@@ -42,8 +42,3 @@ Clear c area = take c area ≡ replicate c 0
 pub data Traced (previous : List ℕ) (start : ℕ) : ℕ → List ℕ → Type 0 where
   Traced·home : Traced previous start start []
   Traced·from : {x u : ℕ} {back : List ℕ} → (x ≡ start → ⊥) → getD previous x 0 ≡ suc u → Traced previous start u back → Traced previous start x (u ∷ back)
-
--- the area with the entries at these places zero again
-unfoldable pub erased : List ℕ → List ℕ → List ℕ
-erased [] area = area
-erased (v ∷ vs) area = erased vs (set area v 0)

@@ -1,7 +1,7 @@
 // The search for a route over a map of centres, in lent areas.
 ghost use mathlib.Core.Path.{_≡_};
 ghost use Prim.Native.Nat.{ℕ, _+_, _*_, _≤_, _<_, _^_};
-ghost use mathlib.Core.List.{[], _∷_, _++_, List·Memᴰ};
+ghost use mathlib.Core.List.{[], _∷_, _++_};
 ghost use mathlib.Core.Bool.{Bool, true};
 ghost use lib.IntN.{pos, natAbs, _+ℤ_, _-ℤ_};
 ghost use lib.Signed.{leZ};
@@ -10,7 +10,7 @@ ghost use Rattle.laws.specs.Lists.{allOf};
 ghost use Rattle.routes.specs.Edges.{stepBy, stepsOf, sidesFrom, eightSteps, windowEdges};
 ghost use Rattle.routes.specs.Routes as routes;
 ghost use Rattle.route.specs.Ground.{openIn, Window, leads, Moved, InWindow};
-ghost use Rattle.route.specs.Areas.{Room, tried, erased};
+ghost use Rattle.route.specs.Areas.{Room, tried};
 ghost use Rattle.route.specs.Results.{Lent, LentAll, StopsAt, Left, Leads, Found, Counted, Laid, Routed, Restored};
 
 // The order of steps of the original: x, y pairs.
@@ -217,20 +217,14 @@ pub fn search(
     }
 }
 
-// Makes the entries that a search wrote zero again: the queue's first entries, and the predecessors of the centres that they name.
-pub fn wipe(queue: &mut [u32], previous: &mut [u32], tail: usize)
-    requires { ⌜ tail ≤ length (now queue) ⌝ }
-    requires { ⌜ ((v : ℕ) → List·Memᴰ v (take tail (now queue)) → v < length (now previous)) ⌝ }
+// Makes the entries that a search over c centres wrote zero again.
+pub fn wipe(queue: &mut [u32], previous: &mut [u32], tail: usize, c: usize)
+    requires { ⌜ (tail ≤ length (now queue)) × (c ≤ length (now previous)) ⌝ }
     ensures { λ r. ⌜ now (queue .exit) ≡ replicate tail 0 ++ drop tail (now (queue .entry)) ⌝ }
-    ensures { λ r. ⌜ now (previous .exit) ≡ erased (take tail (now (queue .entry))) (now (previous .entry)) ⌝ }
+    ensures { λ r. ⌜ now (previous .exit) ≡ replicate c 0 ++ drop c (now (previous .entry)) ⌝ }
 {
-    let mut i = 0;
-    while i < tail {
-        let v = index(queue[i]);
-        previous[v] = 0;
-        queue[i] = 0;
-        i += 1;
-    }
+    areas::clear_u32(queue, tail);
+    areas::clear_u32(previous, c);
 }
 
 // The number of centres on the way back from end to start, both counted.
@@ -291,11 +285,11 @@ pub fn route(
     let s = search(map, width, height, steps, start, end, queue, previous);
     let tail = s.tail;
     if !s.hit {
-        wipe(queue, previous, tail);
+        wipe(queue, previous, tail, width * height);
         return 0;
     }
     let n = count(previous, start, end);
     lay(previous, start, end, n, path);
-    wipe(queue, previous, tail);
+    wipe(queue, previous, tail, width * height);
     n
 }

@@ -15,7 +15,8 @@ use Rattle.search.specs.State.{Extensions, lastTaken, setOn}
 use Rattle.search.proofs.Formed.{length-setOn}
 use Rattle.calls.specs.Areas.{row}
 use Rattle.rows.specs.Lay.{Used, Stood, SomeStood}
-use Rattle.rows.proofs.Blocks.{length-flat, entry-at}
+use Rattle.laws.proofs.Blocks.{length-flat}
+use Rattle.rows.proofs.Blocks.{entry-at}
 use Rattle.rows.proofs.Sets.{row-head}
 
 pub noList : Extensions

@@ -1,15 +1,14 @@
 -- What a store does to an area whose used entries are followed by zeros: `padded-put` writes at the end of what is used, `padded-trail` takes zeros at the
 -- end of the used entries for unused ones.
-use Prim.Native.Nat.{ℕ, suc, _+_, _-_, _≤_, _<_}
-use mathlib.Core.Path.{_≡_, sym, _∙_, ap}
+use Prim.Native.Nat.{ℕ, _+_, _-_, _≤_, _<_}
+use mathlib.Core.Path.{_≡_, refl, sym, _∙_, ap}
 use mathlib.Core.List.{List, [], _∷_, _++_, append-assoc, append-nil}
 use native.Mathlib.Omega.{arith}
-use native.Mathlib.Numerals.{add-one}
 use lib.ListN.{length, take, drop, getD, set, length-append, replicate-append-replicate}
-use lib.Seq.{take-append-seam, drop-append-add, drop-append-le, drop-at, take-at, getD-at, append-snoc, set-split}
+use lib.Seq.{drop-append-add, drop-append-le, drop-at, take-at, getD-at}
 use Rattle.laws.specs.Lists.{padded}
 use Rattle.laws.specs.Fill.{zeros, over}
-use Rattle.laws.proofs.Stores.{length-zeros, drop-zeros, length-padded}
+use Rattle.laws.proofs.Stores.{length-zeros, drop-replicate, length-padded, over-sets, over-after}
 
 pub padded-none : (n : ℕ) → padded n [] ≡ zeros n
 unfolding padded
@@ -18,7 +17,7 @@ padded-none n = ap zeros (let z : n - 0 ≡ n = omega arith in z)
 module _ (n : ℕ) (xs ys zs rest : List ℕ) where
   -- the entries from the end of xs on are stored anew: one more entry, a row, or the last entry changed
   pub padded-put : length ys ≤ length zs → length xs + length zs ≤ n → over (padded n (xs ++ ys) ++ rest) (length xs) zs ≡ padded n (xs ++ zs) ++ rest
-  unfolding padded over
+  unfolding padded
   padded-put h k =
       let a : ℕ = n - length (xs ++ ys) in
       let d : ℕ = length zs - length ys in
@@ -30,10 +29,9 @@ module _ (n : ℕ) (xs ys zs rest : List ℕ) where
       ap (λ (j : ℕ). drop j A) (let z : length zs ≡ length ys + d = omega arith in z)
       ∙ drop-append-add ys (zeros a ++ rest) d
       ∙ drop-append-le d (zeros a) rest (rw (length-zeros a) (omega arith))
-      ∙ ap (λ (q : List ℕ). q ++ rest) (drop-zeros d a ∙ ap zeros (let z : a - d ≡ n - length (xs ++ zs) = omega arith in z)) in
-      ap (λ (q : List ℕ). (take (length xs) q ++ zs) ++ drop (length xs + length zs) q) e
-      ∙ ap (λ (q : List ℕ). (q ++ zs) ++ drop (length xs + length zs) (xs ++ A)) (take-append-seam xs A)
-      ∙ ap (λ (q : List ℕ). (xs ++ zs) ++ q) (drop-append-add xs A (length zs) ∙ w)
+      ∙ ap (λ (q : List ℕ). q ++ rest) (drop-replicate 0 d a ∙ ap zeros (let z : a - d ≡ n - length (xs ++ zs) = omega arith in z)) in
+      ap (λ (q : List ℕ). over q (length xs) zs) e ∙ over-after xs A zs (length xs) refl
+      ∙ ap (λ (q : List ℕ). (xs ++ zs) ++ q) w
       ∙ sym (append-assoc (xs ++ zs) (zeros (n - length (xs ++ zs))) rest)
 
 pub padded-trail : (n m : ℕ) (xs : List ℕ) → length xs + m ≤ n → padded n (xs ++ zeros m) ≡ padded n xs
@@ -78,17 +76,12 @@ padded-free n xs rest at k e h =
     ∙ ap (λ (q : List ℕ). take k q) (append-assoc (zeros k) (zeros (d - k)) rest)
     ∙ take-at (zeros k) (zeros (d - k) ++ rest) k (length-zeros k)
 
--- ---- one store
-pub set-over : (l : List ℕ) (i v : ℕ) → i < length l → set l i v ≡ over l i (v ∷ [])
-unfolding over
-set-over l i v h = set-split l i v h ∙ sym (append-snoc (take i l) v (drop (suc i) l)) ∙ ap (λ (k : ℕ). (take i l ++ (v ∷ [])) ++ drop k l) (sym (add-one i))
-
 -- one entry of a padded array stored anew, or the first free one
 pub padded-set : (n : ℕ) (xs ys : List ℕ) (k v : ℕ) → k ≡ length xs → length ys ≤ 1 → length xs + 1 ≤ n → set (padded n (xs ++ ys)) k v ≡ padded n (xs ++ (v ∷ []))
 padded-set n xs ys k v e h l =
     let p : length (xs ++ ys) ≤ n = let w = length-append xs ys in omega arith in
     let q = length-padded n (xs ++ ys) p in
-    set-over (padded n (xs ++ ys)) k v (omega arith)
+    over-sets (padded n (xs ++ ys)) k (v ∷ []) (omega arith)
     ∙ ap (λ (j : ℕ). over (padded n (xs ++ ys)) j (v ∷ [])) e
     ∙ ap (λ (a : List ℕ). over a (length xs) (v ∷ [])) (sym (append-nil (padded n (xs ++ ys))))
     ∙ padded-put n xs ys (v ∷ []) [] h l

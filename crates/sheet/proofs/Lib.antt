@@ -1,4 +1,5 @@
 pub mod Worked
+pub mod BlockFirst
 pub mod Values
 pub mod Rows
 pub mod Answering

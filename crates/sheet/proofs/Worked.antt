@@ -15,6 +15,12 @@ use Rattle.results.specs.Texts.{refusalText, reasonText, spaced, pointText, lay
 use Rattle.sheets.specs.Sheets.{Sheet, sheet, signedOf, rectOf, withinCaps}
 use Rattle.sheet.specs.Drive.{boundsOf, startOf, endOf, allowedBy, limitsOf, queryOf, edgesOf, preparationOf, inputsFor, noBytes, noWork, noStore, stepText, searchText, allowText, driveText, AnswerOf, driven}
 
+-- a name under which every definition of the drive unfolds, and of the calls
+unfoldable pub driving : ℕ
+unfolding computing decimal decimalBy signed signedOf rectOf boundsOf startOf endOf allowedBy limitsOf queryOf edgesOf preparationOf inputsFor noBytes noWork noStore
+    refusalText reasonText spaced pointText layoutText resultText stepText searchText allowText driveText inputsOf
+driving = 0
+
 unfoldable pub P : Sheet
 P = record {
   size = 1 ∷ 1 ∷ [];
@@ -34,7 +40,7 @@ P = record {
 }
 
 drive-P : driveText eightSteps P ≡ bytes "(result Exhausted 4 3 2)\n(layout 0 (0) ())\n(layout 1 (1 2) ())\n"
-unfolding P computing decimal decimalBy signed signedOf rectOf boundsOf startOf endOf allowedBy limitsOf queryOf edgesOf preparationOf inputsFor noBytes noWork noStore refusalText reasonText spaced pointText layoutText resultText stepText searchText allowText driveText inputsOf
+unfolding P driving
 drive-P = refl
 
 abbrev textP : List ℕ

@@ -1,4 +1,3 @@
-pub mod Parts
 pub mod Found
 pub mod Stepped
 pub mod Answered

@@ -1,14 +1,11 @@
 -- From the parts of a step to the whole: cleared working areas, and the call that is left.
-use Prim.Native.Nat.{ℕ, _-_}
+use Prim.Native.Nat.{ℕ}
 use mathlib.Core.Path.{_≡_, sym, _∙_, ap}
 use mathlib.Core.Option.{none}
 use mathlib.Core.List.{List, []}
 use native.Mathlib.Omega.{arith}
 use lib.IntN.{ℤ}
 use lib.ListN.{length, take, drop, replicate}
-use lib.Seq.{take-at}
-use Rattle.laws.specs.Lists.{padded}
-use Rattle.laws.proofs.Stores.{length-zeros}
 use Rattle.model.specs.Answers.{first}
 use Rattle.model.specs.declared.Limits.{Limits}
 use Rattle.model.specs.declared.Query.{Query}
@@ -22,24 +19,19 @@ use Rattle.layouts.specs.Flat.{inputsOf}
 use Rattle.search.specs.Frames.{step}
 use Rattle.calls.specs.Areas.{Work, Store, workIn, laid, cleared, stateOf, recordOf, storeOf}
 use Rattle.calls.specs.Calls.{planOf, stepChecks, stepCall}
+use Rattle.calls.proofs.Back.{laid-clear}
 use Rattle.calls.proofs.StepLaws.{left, step-is}
 use Rattle.frames.specs.Kept.{terms, planIn, Holds}
 use Rattle.step.specs.Ground.{Clear, Kept}
-
-laid-front : (c : ℕ) (area : List ℕ) → take c (laid c [] area) ≡ replicate c 0
-unfolding laid padded
-laid-front c area =
-    let z : c - 0 ≡ c = omega arith in
-    rw z (take-at (replicate c 0) (drop c area) c (length-zeros c))
 
 module _ (w : Rect) (work : Work) (counts : List ℤ) (map queue predecessors route : List ℕ) (e : workIn counts map queue predecessors route ≡ cleared w work) where
   pub clear-after : Clear (centres w) map queue predecessors route
   unfolding cleared
   clear-after = record {
-    mapClear = ap (λ (x : Work). take (centres w) (x .map)) e ∙ laid-front (centres w) (work .map);
-    queueClear = ap (λ (x : Work). take (centres w) (x .queue)) e ∙ laid-front (centres w) (work .queue);
-    predecessorsClear = ap (λ (x : Work). take (centres w) (x .predecessors)) e ∙ laid-front (centres w) (work .predecessors);
-    routeClear = ap (λ (x : Work). take (centres w) (x .route)) e ∙ laid-front (centres w) (work .route);
+    mapClear = ap (λ (x : Work). take (centres w) (x .map)) e ∙ laid-clear (centres w) (work .map);
+    queueClear = ap (λ (x : Work). take (centres w) (x .queue)) e ∙ laid-clear (centres w) (work .queue);
+    predecessorsClear = ap (λ (x : Work). take (centres w) (x .predecessors)) e ∙ laid-clear (centres w) (work .predecessors);
+    routeClear = ap (λ (x : Work). take (centres w) (x .route)) e ∙ laid-clear (centres w) (work .route);
   }
 
   pub work-after : (map′ queue′ predecessors′ route′ : List ℕ) → Kept map queue predecessors route map′ queue′ predecessors′ route′

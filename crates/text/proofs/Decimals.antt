@@ -1,7 +1,7 @@
 -- Decimal numbers: one digit more, and that a number is told by its digits and what follows. Reading digit by digit is a function on
 -- lists here, the proofs' own means, which no contract cites. Assumes nothing.
 use mathlib.Core.Path.{_≡_, refl, sym, ap, _∙_, subst}
-use mathlib.Core.Bool.{Bool, true, false}
+use mathlib.Core.Bool.{Bool, true, false, false≢true}
 use mathlib.Core.List.{List, [], _∷_, _++_, append-assoc, append-cancel-left}
 use Prim.Native.Nat.{ℕ, zero, suc, _+_, _-_, _*_, _/_, _%_, _≤_, _<_}
 use native.Mathlib.Omega.{arith}
@@ -51,27 +51,21 @@ pub record Goes (max v c : ℕ) : Type 0 where
 goes : ℕ → ℕ → ℕ → Bool
 goes max v c = both (leb 48 c) (both (leb c 57) (both (ltb 0 v) (leb (v * 10 + (c - 48)) max)))
 
-both-left : (a b : Bool) → both a b ≡ true → a ≡ true
-both-left true b e = refl
-both-left false b e = e
-
-both-right : (a b : Bool) → both a b ≡ true → b ≡ true
-both-right true b e = e
-both-right false b e = absurd (no e)
-  where
-    no : false ≡ true → ⊥
-    no e = let z : _≡_ {A = ℕ} 0 1 = cc in omega arith
+pub both-true : (a b : Bool) → both a b ≡ true → (a ≡ true) × (b ≡ true)
+both-true true b e = (refl, e)
+both-true false b e = absurd (false≢true e)
 
 goes-fact : (max v c : ℕ) → goes max v c ≡ true → Goes max v c
 unfolding goes
 goes-fact max v c e =
-    let e₁ : both (leb c 57) (both (ltb 0 v) (leb (v * 10 + (c - 48)) max)) ≡ true = both-right (leb 48 c) _ e in
-    let e₂ : both (ltb 0 v) (leb (v * 10 + (c - 48)) max) ≡ true = both-right (leb c 57) _ e₁ in
+    let lo = both-true (leb 48 c) _ e in
+    let hi = both-true (leb c 57) _ (lo .1) in
+    let pos = both-true (ltb 0 v) _ (hi .1) in
     record {
-      low = leb-true 48 c (both-left (leb 48 c) _ e);
-      high = leb-true c 57 (both-left (leb c 57) _ e₁);
-      positive = ltb-true 0 v (both-left (ltb 0 v) _ e₂);
-      below = leb-true (v * 10 + (c - 48)) max (both-right (ltb 0 v) _ e₂);
+      low = leb-true 48 c (lo .0);
+      high = leb-true c 57 (hi .0);
+      positive = ltb-true 0 v (pos .0);
+      below = leb-true (v * 10 + (c - 48)) max (pos .1);
     }
 
 fact-goes : (max v c : ℕ) → Goes max v c → goes max v c ≡ true

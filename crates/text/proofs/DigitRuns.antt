@@ -1,11 +1,10 @@
 -- Digits run together: they are read as far as they go, and each is told by itself. Assumes nothing.
 use mathlib.Core.Path.{_≡_, refl, sym, ap, _∙_, subst}
-use mathlib.Core.List.{List, [], _∷_, _++_, append-assoc, append-cancel-left, map}
+use mathlib.Core.List.{List, [], _∷_, _++_, append-cancel-left, map}
 use Prim.Native.Nat.{ℕ, zero, suc, _+_, _-_, _≤_, _<_}
 use native.Mathlib.Omega.{arith}
-use native.Mathlib.Numerals.{add-one}
-use lib.ListN.{length, take, drop, getD, set, length-append, length-drop, length-map}
-use lib.Seq.{take-suc, getD-drop, getD-take, length-take-le, drop-cons, set-at}
+use lib.ListN.{length, take, drop, getD, length-drop, length-map}
+use lib.Seq.{getD-drop, getD-take, length-take-le}
 use Rattle.text.specs.Forms.{All, digits}
 use Rattle.text.specs.Reading.{Past, Stop, Got, Bad, GotAt, BadAt, from}
 use Rattle.text.specs.Answers.{DigitsRead}
@@ -135,60 +134,6 @@ finding-more s at i w h lo hi = record {
 
 pub finding-stops : (s : List ℕ) (at i : ℕ) → Finding s at i → (i < length s → 48 ≤ getD s i 0 → 57 < getD s i 0) → DigitRun s at i
 finding-stops s at i w h = record { after = w .after; inside = w .inside; low = w .low; high = w .high; stops = h }
-
--- ---- the loop that copies
-pub record Copying (s : List ℕ) (at n : ℕ) (before out : List ℕ) (k : ℕ) : Type 0 where
-  pub few : k ≤ n
-  pub run : DigitRun s at (at + n)
-  pub room : n ≤ length before
-  pub area : out ≡ cells s at k ++ drop k before
-
-pub copying-start : (s : List ℕ) (at n : ℕ) (before : List ℕ) → DigitRun s at (at + n) → n ≤ length before → Copying s at n before before 0
-copying-start s at n before w r = record { few = omega arith; run = w; room = r; area = refl }
-
-map-append : (f : ℕ → ℕ) (l m : List ℕ) → map f (l ++ m) ≡ map f l ++ map f m
-map-append f [] m = refl
-map-append f (a ∷ l) m = ap (λ (t : List ℕ). f a ∷ t) (map-append f l m)
-
-module _ (s : List ℕ) (at n : ℕ) (before out : List ℕ) (k : ℕ) (w : Copying s at n before out k) where
-  part-long : length (cells s at k) ≡ k
-  part-long =
-      let a : at + n ≤ length s = w .run .inside in let f : k ≤ n = w .few in
-      length-map (take k (drop at s)) (λ c. c - 48) ∙ length-take-le k (drop at s) (omega (arith, length-drop at s))
-
-  pub copying-long : length out ≡ length before
-  copying-long = let f : k ≤ n = w .few in let r : n ≤ length before = w .room in
-      omega (arith, ap length (w .area), length-append (cells s at k) (drop k before), part-long, length-drop k before)
-
-  module _ (more : k < n) where
-    pub copying-inside : at + k < length s
-    copying-inside = let a : at + n ≤ length s = w .run .inside in omega arith
-
-    pub copying-low : 48 ≤ getD s (at + k) 0
-    copying-low = w .run .low (at + k) (omega arith) (omega arith)
-
-    pub copying-room : k < length out
-    copying-room = let r : n ≤ length before = w .room in omega (arith, copying-long)
-
-    pub copying-more : Copying s at n before (set out k (getD s (at + k) 0 - 48)) (k + 1)
-    copying-more =
-        let r : n ≤ length before = w .room in
-        let one : cells s at (k + 1) ≡ cells s at k ++ ((getD s (at + k) 0 - 48) ∷ []) =
-        ap (λ (m : ℕ). cells s at m) (add-one k)
-        ∙ ap (map (λ c. c - 48)) (take-suc (drop at s) k 0 (omega (arith, copying-inside, length-drop at s)) ∙ ap (λ (c : ℕ). take k (drop at s) ++ (c ∷ [])) (getD-drop at s k 0))
-        ∙ map-append (λ c. c - 48) (take k (drop at s)) (getD s (at + k) 0 ∷ []) in
-        record {
-          few = omega arith;
-          run = w .run;
-          room = w .room;
-          area = ap (λ (l : List ℕ). set l k (getD s (at + k) 0 - 48)) (w .area ∙ ap (λ (l : List ℕ). cells s at k ++ l) (drop-cons before k 0 (omega arith) ∙ ap (λ (m : ℕ). getD before k 0 ∷ drop m before) (sym (add-one k))))
-              ∙ set-at (cells s at k) (getD before k 0) (drop (k + 1) before) (getD s (at + k) 0 - 48) k part-long
-              ∙ sym (append-assoc (cells s at k) ((getD s (at + k) 0 - 48) ∷ []) (drop (k + 1) before))
-              ∙ ap (λ (l : List ℕ). l ++ drop (k + 1) before) (sym one);
-        }
-
-  pub copying-done : n ≤ k → out ≡ cells s at n ++ drop n before
-  copying-done h = let f : k ≤ n = w .few in let e : k ≡ n = omega arith in w .area ∙ ap (λ (m : ℕ). cells s at m ++ drop m before) e
 
 -- ---- the answers of `digits`
 module _ (s : List ℕ) (at end : ℕ) (w : DigitRun s at end) where

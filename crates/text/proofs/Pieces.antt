@@ -1,6 +1,6 @@
 -- A line by its pattern, piece by piece: a number or a byte, then the rest. Assumes nothing.
 use mathlib.Core.Path.{_≡_, refl, sym, ap, _∙_, subst}
-use mathlib.Core.Bool.{Bool, true, false, not}
+use mathlib.Core.Bool.{Bool, true, false, not, false≢true}
 use mathlib.Core.List.{List, [], _∷_, _++_, append-assoc, append-cancel-left}
 use Prim.Native.Nat.{ℕ, suc, _+_, _-_, _≤_, _<_}
 use native.Mathlib.Omega.{arith}
@@ -12,15 +12,11 @@ use Rattle.text.specs.Patterns.{Piece, byte, plain, minus, piece, onto, 
 use Rattle.text.specs.Reading.{Past, Stop, Got, Bad, GotAt, BadAt, Reads, Out, got, bad, from}
 use Rattle.text.specs.Inner.{after}
 use Rattle.text.proofs.Laws.{Solid, Some, Joined, Apart, Tells, Any, joined-solid, seq-got, seq-first, seq-second, past-cancel, past-of}
-use Rattle.text.proofs.Decimals.{number-tells, integer-tells, headOf}
+use Rattle.text.proofs.Decimals.{both-true, number-tells, integer-tells, headOf}
 use Rattle.text.proofs.Places.{bad-at, from-cons, from-end, bad-here}
 
 pub clash : {A : Type 0} → false ≡ true → A
-clash e = let z : _≡_ {A = ℕ} 0 1 = cc in absurd (omega arith)
-
-pub both-true : (a b : Bool) → both a b ≡ true → (a ≡ true) × (b ≡ true)
-both-true true b e = (refl, e)
-both-true false b e = clash e
+clash e = absurd (false≢true e)
 
 -- ---- a number, then the rest
 module _ (f : Form ℕ) (g : Form (List ℕ)) where

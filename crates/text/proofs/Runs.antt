@@ -1,11 +1,13 @@
 -- Runs of a form, and what follows them; then the loop of `rows`. Assumes nothing.
-use mathlib.Core.Path.{_≡_, refl, sym, ap, _∙_, subst}
+use mathlib.Core.Path.{_≡_, refl, sym, ap, ap₂, _∙_, subst}
 use mathlib.Core.Bool.{true}
 use mathlib.Core.List.{List, [], _∷_, _++_, append-assoc, append-nil}
 use Prim.Native.Nat.{ℕ, _+_, _-_, _≤_, _<_}
 use native.Mathlib.Omega.{arith}
-use lib.ListN.{length, take, drop, length-append, length-drop, drop-of-length-le}
-use lib.Seq.{take-all, take-at, drop-at, drop-drop}
+use lib.ListN.{length, take, drop, length-append, length-drop}
+use lib.Seq.{length-take-le, drop-drop}
+use Rattle.laws.specs.Fill.{over}
+use Rattle.laws.proofs.Stores.{over-lent, over-after}
 use Rattle.text.specs.Forms.{Form, many, perhaps}
 use Rattle.text.specs.Patterns.{line, opens, good, fields, repeats, some, both}
 use Rattle.text.specs.Reading.{Stop, Got, GotAt, BadAt, Chain, none, more, Run, Few, absent, present, from}
@@ -16,8 +18,9 @@ use Rattle.text.specs.declared.Pass.{Pass}
 use Rattle.text.specs.declared.Pass.the-variants as pass
 use Rattle.text.specs.declared.Next.the-variants as next
 use Rattle.text.proofs.Laws.{Solid, Some, Apart, Joined, joined-solid, split-one, split-solid, split-some, many-splits, perhaps-splits}
+use Rattle.text.proofs.Decimals.{both-true}
 use Rattle.text.proofs.Places.{one-got, end-got, one-bad, end-bad, first-bad, long-from}
-use Rattle.text.proofs.Pieces.{both-true, clash, line-solid, line-count}
+use Rattle.text.proofs.Pieces.{clash, line-solid, line-count}
 
 -- ---- any forms: a run of the first, then the second
 pub chain-inside : {A : Type 0} {f : Form A} {s : List ℕ} {at next : ℕ} {l : List A} → Chain f s at l next → at ≤ length s → (at ≤ next) × (next ≤ length s)
@@ -117,26 +120,12 @@ pub record Going (pattern s : List ℕ) (at : ℕ) (before out : List ℕ) (i n 
 pub going-start : (pattern s : List ℕ) (at : ℕ) (before : List ℕ) → at ≤ length s → Going pattern s at before before at 0 0
 going-start pattern s at before h = record { rows = []; chain = none; counted = refl; few = omega arith; inside = h; used = refl; room = omega arith; area = refl }
 
-lent-all : (xs : List ℕ) (b : ℕ) → take (length xs - b) (drop b xs) ≡ drop b xs
-lent-all xs b = take-all (length xs - b) (drop b xs) (omega (arith, length-drop b xs))
-
-back-all : (xs ys : List ℕ) (b : ℕ) → take b xs ++ (ys ++ drop (length xs - b) (drop b xs)) ≡ take b xs ++ ys
-back-all xs ys b =
-    ap (λ (l : List ℕ). take b xs ++ (ys ++ l)) (drop-of-length-le (drop b xs) {i = length xs - b} (omega (arith, length-drop b xs)))
-    ∙ ap (λ (l : List ℕ). take b xs ++ l) (append-nil ys)
-
 module _ (pattern s : List ℕ) (at : ℕ) (before out : List ℕ) (i n base : ℕ) (w : Going pattern s at before out i n base) where
   pub going-long : length out ≡ length before
   going-long =
       let u : base ≡ length (flat (w .rows)) = w .used in
       let r : base ≤ length before = w .room in
       omega (arith, ap length (w .area), length-append (flat (w .rows)) (drop base before), length-drop base before)
-
-  done : take base out ≡ flat (w .rows)
-  done = ap (take base) (w .area) ∙ take-at (flat (w .rows)) (drop base before) base (sym (w .used))
-
-  left : drop base out ≡ drop base before
-  left = ap (drop base) (w .area) ∙ drop-at (flat (w .rows)) (drop base before) base (sym (w .used))
 
   module _ (v : ℕ) (e : v ≡ fields pattern) (ok : repeats pattern ≡ true) where
     pub going-wrong : (r : Pass) (p : ℕ) → r ≡ pass.Wrong p → Passes pattern s i r → RowsRead pattern s at before out (several.Read n base i p)
@@ -189,7 +178,7 @@ module _ (pattern s : List ℕ) (at : ℕ) (before out : List ℕ) (i n base : �
 
       module _ (room : v ≤ length out - base) where
         pub going-room : fields pattern ≤ length (take (length out - base) (drop base out))
-        going-room = omega (arith, ap length (lent-all out base), length-drop base out)
+        going-room = omega (arith, length-take-le (length out - base) (drop base out) (omega (arith, length-drop base out)))
 
         pub going-more : (ys : List ℕ) → Stored pattern s i (take (length out - base) (drop base out)) ys
             → Going pattern s at before (take base out ++ (ys ++ drop (length out - base) (drop base out))) m (n + 1) (base + v)
@@ -199,8 +188,6 @@ module _ (pattern s : List ℕ) (at : ℕ) (before out : List ℕ) (i n base : �
             let c : n ≡ length (w .rows) = w .counted in
             let f : n ≤ i = w .few in
             let on : i < m = going-on in
-            let stored : ys ≡ row ++ drop v (drop base before) = k .area row m (passed .got)
-            ∙ ap (λ (l : List ℕ). row ++ drop (length row) l) (lent-all out base ∙ left) ∙ ap (λ (x : ℕ). row ++ drop x (drop base before)) wide in
             let all : flat (w .rows ++ (row ∷ [])) ≡ flat (w .rows) ++ row = flat-append (w .rows) (row ∷ []) ∙ ap (λ (l : List ℕ). flat (w .rows) ++ l) (append-nil row) in
             record {
               rows = w .rows ++ (row ∷ []);
@@ -210,8 +197,11 @@ module _ (pattern s : List ℕ) (at : ℕ) (before out : List ℕ) (i n base : �
               inside = going-inside;
               used = omega (arith, ap length all, length-append (flat (w .rows)) row, wide);
               room = omega (arith, going-long);
-              area = back-all out ys base ∙ ap (λ (l : List ℕ). l ++ ys) done ∙ ap (λ (l : List ℕ). flat (w .rows) ++ l) (stored ∙ ap (λ (l : List ℕ). row ++ l) (drop-drop v base before))
-                  ∙ sym (append-assoc (flat (w .rows)) row (drop (base + v) before)) ∙ ap (λ (l : List ℕ). l ++ drop (base + v) before) (sym all);
+              area = ap (λ (l : List ℕ). take base out ++ (l ++ drop (length out - base) (drop base out))) (k .area row m (passed .got))
+                  ∙ over-lent out base (length out - base) (length row) row refl (omega (arith, wide)) (omega (arith, going-long))
+                  ∙ ap (λ (l : List ℕ). over l base row) (w .area)
+                  ∙ over-after (flat (w .rows)) (drop base before) row base (sym u)
+                  ∙ ap₂ (λ (x y : List ℕ). x ++ y) (sym all) (drop-drop (length row) base before ∙ ap (λ (x : ℕ). drop (base + x) before) wide);
             }
 
 -- ---- one line, and one or none

@@ -18,8 +18,9 @@ use Rattle.text.specs.declared.Step.{Step}
 use Rattle.text.specs.declared.Step.the-variants as step
 use Rattle.text.specs.declared.Pass.the-variants as pass
 use Rattle.text.proofs.Laws.{Joined}
+use Rattle.text.proofs.Decimals.{both-true}
 use Rattle.text.proofs.Places.{not-both, one-value}
-use Rattle.text.proofs.Pieces.{clash, both-true, reads-onto, reads-first, reads-byte, reads-other, reads-short, line-none, line-some, line-tells, joined-line}
+use Rattle.text.proofs.Pieces.{clash, reads-onto, reads-first, reads-byte, reads-other, reads-short, line-none, line-some, line-tells, joined-line}
 
 -- ---- a piece by the code's tests
 pub limit-piece : (m c : ℕ) → not (eqb m 0) ≡ isNumber (pieceBy false m c)
@@ -397,7 +398,7 @@ module _ (pattern s : List ℕ) (at : ℕ) (before out : List ℕ) (i j k : ℕ)
           counted = omega (arith, length-append (w .values) (v ∷ []));
           fine = w .fine;
           room = w .room;
-          area = ap (λ (l : List ℕ). set l k v) (w .area ∙ ap (λ (l : List ℕ). w .values ++ l) (drop-cons before k 0 inside ∙ ap (λ (m : ℕ). getD before k 0 ∷ drop m before) (sym (add-one k))))
+          area = ap (λ (l : List ℕ). set l k v) (w .area ∙ ap (λ (l : List ℕ). w .values ++ l) (next-piece before k inside))
               ∙ set-at (w .values) (getD before k 0) (drop (k + 1) before) v k (sym a)
               ∙ sym (append-assoc (w .values) (v ∷ []) (drop (k + 1) before));
         }

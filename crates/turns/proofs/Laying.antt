@@ -21,7 +21,7 @@ use Rattle.search.proofs.Formed.{Line, Lines}
 use Rattle.calls.specs.Areas.{numberOf, laid, row, recordOf}
 use Rattle.rows.specs.Lay.{Used}
 use Rattle.rows.proofs.Stores.{padded-add, padded-cut, padded-set, padded-trail, padded-last}
-use Rattle.rows.proofs.Blocks.{flat-snoc, length-flat}
+use Rattle.laws.proofs.Blocks.{flat-snoc, length-flat}
 use Rattle.turns.specs.Held.{stackOf, stopRec, seenRec, takenRec, poppedRec, pushedRec}
 
 -- ---- the numbers of a record

@@ -16,16 +16,12 @@ use Rattle.search.specs.State.{Extensions, State, setOn}
 use Rattle.search.specs.Frames.{Plan}
 use Rattle.search.proofs.Formed.{Lines, length-setOn}
 use Rattle.calls.specs.Areas.{laid, row, recordOf}
+use Rattle.calls.proofs.Back.{laid-front}
 use Rattle.rows.specs.Lay.{Seek, Stood, SomeStood}
-use Rattle.rows.proofs.Blocks.{length-flat}
+use Rattle.laws.proofs.Blocks.{length-flat}
 use Rattle.rows.proofs.Sets.{length-row}
 use Rattle.turns.specs.Held.{stackOf, rowsOf, Fitting, Part, SomePart}
 use Rattle.turns.proofs.Laying.{Summed, summed, line-used}
-
--- an area is its used entries and something more
-pub laid-split : (n : ℕ) (used a : List ℕ) → laid n used a ≡ used ++ (zeros (n - length used) ++ drop n a)
-unfolding laid padded
-laid-split n used a = append-assoc used (zeros (n - length used)) (drop n a)
 
 pub length-laid : (n : ℕ) (used a : List ℕ) → length used ≤ n → n ≤ length (laid n used a)
 unfolding laid
@@ -47,7 +43,7 @@ module _ (g : Board) (p : Plan) (l : Limits) (n : ℕ) (fit : Fitting g p l n) (
       let on : Lines g true (s .lists) = subst (λ (x : Bool). Lines g x (s .lists)) (sym (numbers .pendingIs) ∙ b) (h .good .formed .lists) in
       subst (λ (k : ℕ). Stood lists k count (r .nexts) (reverse (s .lists)) behind) (fit .countIs)
       (record {
-        laid = h .listsAre ∙ laid-split (6 * g .places .count) (stackOf (g .places .count) (s .lists)) l₀;
+        laid = h .listsAre ∙ laid-front (6 * g .places .count) (stackOf (g .places .count) (s .lists)) l₀;
         count = e ∙ numbers .listsAre ∙ sym (length-reverse (s .lists));
         nexts = ap (λ (q : Record). q .nexts) (h .rec);
         deep = omega (arith, length-reverse (s .lists), h .good .formed .deep);
@@ -57,7 +53,7 @@ module _ (g : Board) (p : Plan) (l : Limits) (n : ℕ) (fit : Fitting g p l n) (
   pub part-seek : (count : ℕ) → count ≡ r .evaluations → (set : List ℕ) → set ≡ row (setOn (reverse (reverse (s .lists)))) → Seek visited count set (setOn (s .lists)) (s .visited) below′
   unfolding rowsOf
   part-seek count e set q = record {
-    laid = h .visitedAre ∙ laid-split (7 * p .states) (rowsOf (s .visited)) v₀;
+    laid = h .visitedAre ∙ laid-front (7 * p .states) (rowsOf (s .visited)) v₀;
     count = e ∙ numbers .evaluationsAre;
     sought = q ∙ ap (λ (ls : List Extensions). row (setOn ls)) (reverse-reverse (s .lists));
     six = omega (arith, length-setOn (s .lists), h .good .formed .deep);

@@ -3,10 +3,10 @@ use Prim.Native.Nat.{ℕ, _*_, _<_}
 use mathlib.Core.Path.{_≡_, refl, sym, ap, ap₂, _∙_}
 use mathlib.Core.Bool.{Bool, true, false, not, _&&_, true≢false, false≢true}
 use mathlib.Core.Option.{Option}
-use mathlib.Core.List.{List, [], _∷_, _++_, append-nil}
+use mathlib.Core.List.{List, [], _∷_, _++_}
 use lib.IntN.{ℤ}
 use lib.ListN.{length, drop, replicate, length-replicate}
-use lib.Seq.{drop-length}
+use Rattle.laws.proofs.Stores.{whole-cleared}
 use Rattle.laws.specs.Lists.{anyOf, firstOf, isSome}
 use Rattle.model.specs.declared.Rect.{Rect}
 use Rattle.model.specs.declared.Query.{Query}
@@ -143,8 +143,7 @@ lent-blank q start end w s e b =
 
 -- an area of c entries is zero once it is wiped to its end
 pub wiped-whole : (c : ℕ) (area : List ℕ) → length area ≡ c → replicate (length area) 0 ++ drop (length area) area ≡ replicate c 0
-wiped-whole c area e =
-    ap (λ (x : List ℕ). replicate (length area) 0 ++ x) (drop-length area) ∙ append-nil (replicate (length area) 0) ∙ ap (λ (n : ℕ). replicate n 0) e
+wiped-whole c area e = whole-cleared 0 area ∙ ap (λ (n : ℕ). replicate n 0) e
 
 pub blank-again : {c : ℕ} {map queue previous path map′ queue′ previous′ path′ : List ℕ} → Blank c map queue previous path → map′ ≡ replicate c 0
     → Kept queue previous path queue′ previous′ path′ → Blank c map′ queue′ previous′ path′

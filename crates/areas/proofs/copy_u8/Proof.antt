@@ -1,11 +1,11 @@
 -- `areas::copy_u8` meets its contract: the loop writes the other area's entry at each index below n.
 use borrow.Author.Needs.{needs}
-use mathlib.Core.Path.{refl, ap, _∙_}
-use mathlib.Core.List.{List, _++_, map-id}
+use mathlib.Core.Path.{refl}
 use Prim.Native.Nat.{ℕ, _-_}
-use lib.ListN.{getD, take, drop}
+use lib.ListN.{getD}
 use Rattle.laws.specs.Fill.{Filling}
-use Rattle.laws.proofs.Fill.{filling-none, filling-more, filling-all, filled-copy}
+use Rattle.laws.proofs.Fill.{filling-none, filling-more}
+use Rattle.areas.proofs.Copied.{copied}
 use Rattle.areas.proofs.copy_u8.Statement.{statement}
 use Rattle.areas.proofs.copy_u8.Tie as tie
 
@@ -42,9 +42,7 @@ same-length c = c .before .loop .inv .size
 returns : tie.Need-returns Inv-loop μ-loop
 returns c =
     let entry = c .before .before in
-    filling-all (λ (j : ℕ). getD (entry .args .from .now) j 0) (entry .args .n) (entry .args .s .now) (entry .pre .0) (c .before .loop .s) (c .before .loop .i) (c .loop-test .left) (c .before .loop .inv)
-    ∙ filled-copy (λ (b : ℕ). b) (entry .args .from .now) 0 (entry .args .n) (entry .args .s .now) (entry .pre .1)
-    ∙ ap (λ (l : List ℕ). l ++ drop (entry .args .n) (entry .args .s .now)) (map-id (take (entry .args .n) (entry .args .from .now)))
+    copied (entry .args .from .now) 0 (entry .args .n) (entry .args .s .now) (entry .pre .0) (entry .pre .1) (c .before .loop .s) (c .before .loop .i) (c .loop-test .left) (c .before .loop .inv)
 
 pub copy-u8-spec : {M : Type 1} → statement M
 copy-u8-spec =

@@ -1,19 +1,18 @@
 -- `areas::fill_bytes` meets its contract: the loop writes b at each index.
 use borrow.Author.Needs.{needs}
-use mathlib.Core.Path.{_≡_, refl, ap, _∙_}
-use mathlib.Core.List.{List, _++_, append-nil}
+use mathlib.Core.Path.{_≡_, refl, _∙_}
+use mathlib.Core.List.{List}
 use Prim.Native.Nat.{ℕ, _-_}
 use native.Mathlib.Omega.{arith}
 use lib.ListN.{length, replicate}
-use lib.Seq.{drop-length}
 use Rattle.laws.specs.Fill.{filled, Filling}
 use Rattle.laws.proofs.Fill.{filling-none, filling-more, filling-all, filled-const}
+use Rattle.laws.proofs.Stores.{whole-cleared}
 use Rattle.areas.proofs.fill_bytes.Statement.{statement}
 use Rattle.areas.proofs.fill_bytes.Tie as tie
 
--- nothing is left past the whole
 whole : (b : ℕ) (v : List ℕ) → filled (λ (j : ℕ). b) (length v) v ≡ replicate (length v) b
-whole b v = filled-const b (length v) v ∙ ap (λ (l : List ℕ). replicate (length v) b ++ l) (drop-length v) ∙ append-nil (replicate (length v) b)
+whole b v = filled-const b (length v) v ∙ whole-cleared b v
 
 abbrev Inv-loop : tie.InvT-loop
 Inv-loop s₀ b i₀ s i = Filling (λ (j : ℕ). b) (length s₀) s₀ s i

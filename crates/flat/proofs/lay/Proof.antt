@@ -5,48 +5,39 @@ use mathlib.Core.List.{List}
 use native.Mathlib.Omega.{arith}
 use lib.IntN.{ℤ}
 use borrow.Author.Needs.{needs}
-use Rattle.flat.specs.Rows.{edgesOf, bothOf, put}
-use Rattle.flat.proofs.Laying.{put-twice}
+use Rattle.laws.specs.Fill.{over}
+use Rattle.laws.proofs.Stores.{over-twice}
+use Rattle.flat.specs.Rows.{edgesOf, bothOf}
 use Rattle.flat.proofs.lay.Statement.{statement}
 use Rattle.flat.proofs.lay.Tie as tie
 
--- src/lib.rt:53:14
 mul-at : tie.Need-mul-at
 mul-at c = search needs
 
--- src/lib.rt:54:26
 mul-put-numbers : tie.Need-mul-put-numbers
 mul-put-numbers c = search needs
 
--- src/lib.rt:54:5
 put-numbers-requires : tie.Need-put-numbers-requires
 put-numbers-requires c κs = search needs
 
--- src/lib.rt:55:5
 put-edges-requires : tie.Need-put-edges-requires
 put-edges-requires c κs = search needs
 
--- src/lib.rt:56:22
 add-put-edges : tie.Need-add-put-edges
 add-put-edges c = search needs
 
--- src/lib.rt:56:5
 put-edges-requires-2 : tie.Need-put-edges-requires-2
 put-edges-requires-2 c κs = search needs
 
--- src/lib.rt:57:5
 add-result : tie.Need-add-result
 add-result c = search needs
 
--- src/lib.rt:47:1
 same-length : tie.Need-same-length
 same-length c = search needs
 
--- src/lib.rt:47:1
 same-length-2 : tie.Need-same-length-2
 same-length-2 c = search needs
 
--- src/lib.rt:47:1
 returns : tie.Need-returns
 unfolding bothOf edgesOf
 returns c =
@@ -58,8 +49,8 @@ returns c =
       refl,
       (
         c .before .before .before .before .before .before .before .before .put-numbers .ensures,
-        c .before .put-edges2 .ensures ∙ ap (λ (l : List ℤ). put l (8 * i + 4) (edgesOf (p .collision))) first
-            ∙ put-twice xs (8 * i) (edgesOf (p .footprint)) (edgesOf (p .collision)) (8 * i + 4) refl (omega (arith, known .pre .1)),
+        c .before .put-edges2 .ensures ∙ ap (λ (l : List ℤ). over l (8 * i + 4) (edgesOf (p .collision))) first
+            ∙ over-twice xs (8 * i) (edgesOf (p .footprint)) (edgesOf (p .collision)) (8 * i + 4) refl (omega (arith, known .pre .1)),
       ),
     )
 

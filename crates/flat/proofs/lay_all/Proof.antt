@@ -159,11 +159,12 @@ use denote.Triple.Walked.{
 }
 use denote.Exit.{yes}
 use Rattle.laws.specs.Lists.{flat}
+use Rattle.laws.specs.Fill.{over}
 use Rattle.model.specs.declared.Placement.{Placement}
 use Rattle.model.proofs.Placement as P
 use Rattle.model.proofs.Placement.Laws as P′
 use Rattle.layouts.specs.Inputs.{noPlace}
-use Rattle.flat.specs.Rows.{numbersOf, bothOf, put}
+use Rattle.flat.specs.Rows.{numbersOf, bothOf}
 use Rattle.flat.proofs.Again.{LentAgain, lends-again, comes-back}
 use Rattle.flat.proofs.Turns.{Turn, turn-none, turn-more, turn-all}
 use Rattle.flat.proofs.lay as ly
@@ -282,8 +283,8 @@ module _ {M : Type 1} (𝓤 : URA M) (H : Heap 𝓤) (A : Atoms 𝓤) (W : Given
 
   -- what `lay` ensures of placement i
   abbrev Said : ℕ → List ℕ → List ℤ → ℕ → List ℕ → List ℤ → Type 0
-  Said i zs es r zs′ es′ = (r ≡ i + 1) × ((zs′ ≡ put zs (4 * i) (numbersOf (getD ys i noPlace))) ×
-      (es′ ≡ put es (8 * i) (bothOf (getD ys i noPlace))))
+  Said i zs es r zs′ es′ = (r ≡ i + 1) × ((zs′ ≡ over zs (4 * i) (numbersOf (getD ys i noPlace))) ×
+      (es′ ≡ over es (8 * i) (bothOf (getD ys i noPlace))))
 
   module _ (i : ℕ) (zs : List ℕ) (es : List ℤ) where
     abbrev to-lay : ℕ → GName → ℕ → GName → Lay 𝓤 H A mem run .Ghost

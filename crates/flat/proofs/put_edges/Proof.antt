@@ -4,64 +4,51 @@ use lib.ListN.{length-set}
 use borrow.Author.Needs.{needs}
 use Rattle.rects.proofs.Edges.{edges}
 use Rattle.flat.specs.Rows.{edgesOf}
-use Rattle.flat.proofs.Laying.{put-four}
+use Rattle.flat.proofs.Laying.{over-four}
 use Rattle.flat.proofs.put_edges.Statement.{statement}
 use Rattle.flat.proofs.put_edges.Tie as tie
 
--- src/lib.rt:40:5
 mul-left : tie.Need-mul-left
 mul-left c = search needs
 
--- src/lib.rt:40:5
 slice-set-from-left : tie.Need-slice-set-from-left
 slice-set-from-left c = search needs
 
--- src/lib.rt:41:11
 add-top : tie.Need-add-top
 add-top c = search needs
 
--- src/lib.rt:41:5
 mul-top : tie.Need-mul-top
 mul-top c = search needs
 
--- src/lib.rt:41:5
 slice-set-from-top : tie.Need-slice-set-from-top
 slice-set-from-top c = simp length-set (omega arith)
 
--- src/lib.rt:42:11
 add-right : tie.Need-add-right
 add-right c = search needs
 
--- src/lib.rt:42:5
 mul-right : tie.Need-mul-right
 mul-right c = search needs
 
--- src/lib.rt:42:5
 slice-set-from-right : tie.Need-slice-set-from-right
 slice-set-from-right c = simp length-set (omega arith)
 
--- src/lib.rt:43:11
 add-bottom : tie.Need-add-bottom
 add-bottom c = search needs
 
--- src/lib.rt:43:5
 mul-bottom : tie.Need-mul-bottom
 mul-bottom c = search needs
 
--- src/lib.rt:43:5
 slice-set-from-bottom : tie.Need-slice-set-from-bottom
 slice-set-from-bottom c = simp length-set (omega arith)
 
--- src/lib.rt:32:1
 same-length : tie.Need-same-length
 same-length c = search needs
 
--- src/lib.rt:32:1
 returns : tie.Need-returns
 unfolding edgesOf
 returns c =
     let e = edges (c .before .before .before .before .args .r) (c .before .before .before .struct-told .given) in
-    rw (e .left, e .top, e .right, e .bottom) (put-four _ _ _ _ _ _ (search needs))
+    rw (e .left, e .top, e .right, e .bottom) (over-four _ _ _ _ _ _ (search needs))
 
 pub put-edges-spec : {M : Type 1} → statement M
 put-edges-spec =

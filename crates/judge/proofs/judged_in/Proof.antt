@@ -5,7 +5,7 @@ use native.Mathlib.Omega.{arith}
 use lib.ListN.{length}
 use Rattle.rects.specs.Windows.{centres}
 use Rattle.rects.proofs.Windows.{framed}
-use Rattle.judge.proofs.Judgement.{part-fits, part-size, part-clear, part-back}
+use Rattle.laws.proofs.Stores.{part-long, part-count, part-clear, part-back}
 use Rattle.judge.proofs.judged_in.Statement.{statement}
 use Rattle.judge.proofs.judged_in.Tie as tie
 
@@ -23,49 +23,49 @@ slice-relend-prefix-judged : tie.Need-slice-relend-prefix-judged
 unfolding centres
 slice-relend-prefix-judged c =
     let a = c .before .before .before .before .before .before .before .before .before .before .before .args in
-    part-fits (c .before .width .result * c .height .result) (centres (a .query .window)) (ap₂ _*_ (c .before .width .ensures .0) (c .height .ensures .0)) (a .map .now) (c .before .before .before .before .before .before .before .before .before .before .before .pre .1 .mapClear)
+    part-long 0 (centres (a .query .window)) (a .map .now) (c .before .before .before .before .before .before .before .before .before .before .before .pre .1 .mapClear) (c .before .width .result * c .height .result) (ap₂ _*_ (c .before .width .ensures .0) (c .height .ensures .0))
 
 slice-aggregate-judged : tie.Need-slice-aggregate-judged
 unfolding centres
 slice-aggregate-judged c =
     let a = c .before .before .before .before .before .before .before .before .before .before .before .before .args in
-    part-size (c .before .before .width .result * c .before .height .result) (centres (a .query .window)) (ap₂ _*_ (c .before .before .width .ensures .0) (c .before .height .ensures .0)) (a .map .now) (c .before .before .before .before .before .before .before .before .before .before .before .before .pre .1 .mapClear)
+    part-count 0 (centres (a .query .window)) (a .map .now) (c .before .before .before .before .before .before .before .before .before .before .before .before .pre .1 .mapClear) (c .before .before .width .result * c .before .height .result) (ap₂ _*_ (c .before .before .width .ensures .0) (c .before .height .ensures .0))
 
 slice-relend-prefix-judged-2 : tie.Need-slice-relend-prefix-judged-2
 unfolding centres
 slice-relend-prefix-judged-2 c =
     let a = c .before .before .before .before .before .before .before .before .before .before .before .before .args in
-    part-fits (c .before .before .width .result * c .before .height .result) (centres (a .query .window)) (ap₂ _*_ (c .before .before .width .ensures .0) (c .before .height .ensures .0)) (a .queue .now) (c .before .before .before .before .before .before .before .before .before .before .before .before .pre .1 .queueClear)
+    part-long 0 (centres (a .query .window)) (a .queue .now) (c .before .before .before .before .before .before .before .before .before .before .before .before .pre .1 .queueClear) (c .before .before .width .result * c .before .height .result) (ap₂ _*_ (c .before .before .width .ensures .0) (c .before .height .ensures .0))
 
 slice-aggregate-judged-2 : tie.Need-slice-aggregate-judged-2
 unfolding centres
 slice-aggregate-judged-2 c =
     let a = c .before .before .before .before .before .before .before .before .before .before .before .before .before .args in
-    part-size (c .before .before .before .width .result * c .before .before .height .result) (centres (a .query .window)) (ap₂ _*_ (c .before .before .before .width .ensures .0) (c .before .before .height .ensures .0)) (a .queue .now) (c .before .before .before .before .before .before .before .before .before .before .before .before .before .pre .1 .queueClear)
+    part-count 0 (centres (a .query .window)) (a .queue .now) (c .before .before .before .before .before .before .before .before .before .before .before .before .before .pre .1 .queueClear) (c .before .before .before .width .result * c .before .before .height .result) (ap₂ _*_ (c .before .before .before .width .ensures .0) (c .before .before .height .ensures .0))
 
 slice-relend-prefix-judged-3 : tie.Need-slice-relend-prefix-judged-3
 unfolding centres
 slice-relend-prefix-judged-3 c =
     let a = c .before .before .before .before .before .before .before .before .before .before .before .before .before .args in
-    part-fits (c .before .before .before .width .result * c .before .before .height .result) (centres (a .query .window)) (ap₂ _*_ (c .before .before .before .width .ensures .0) (c .before .before .height .ensures .0)) (a .predecessors .now) (c .before .before .before .before .before .before .before .before .before .before .before .before .before .pre .1 .previousClear)
+    part-long 0 (centres (a .query .window)) (a .predecessors .now) (c .before .before .before .before .before .before .before .before .before .before .before .before .before .pre .1 .previousClear) (c .before .before .before .width .result * c .before .before .height .result) (ap₂ _*_ (c .before .before .before .width .ensures .0) (c .before .before .height .ensures .0))
 
 slice-aggregate-judged-3 : tie.Need-slice-aggregate-judged-3
 unfolding centres
 slice-aggregate-judged-3 c =
     let a = c .before .before .before .before .before .before .before .before .before .before .before .before .before .before .args in
-    part-size (c .before .before .before .before .width .result * c .before .before .before .height .result) (centres (a .query .window)) (ap₂ _*_ (c .before .before .before .before .width .ensures .0) (c .before .before .before .height .ensures .0)) (a .predecessors .now) (c .before .before .before .before .before .before .before .before .before .before .before .before .before .before .pre .1 .previousClear)
+    part-count 0 (centres (a .query .window)) (a .predecessors .now) (c .before .before .before .before .before .before .before .before .before .before .before .before .before .before .pre .1 .previousClear) (c .before .before .before .before .width .result * c .before .before .before .height .result) (ap₂ _*_ (c .before .before .before .before .width .ensures .0) (c .before .before .before .height .ensures .0))
 
 slice-relend-prefix-judged-4 : tie.Need-slice-relend-prefix-judged-4
 unfolding centres
 slice-relend-prefix-judged-4 c =
     let a = c .before .before .before .before .before .before .before .before .before .before .before .before .before .before .args in
-    part-fits (c .before .before .before .before .width .result * c .before .before .before .height .result) (centres (a .query .window)) (ap₂ _*_ (c .before .before .before .before .width .ensures .0) (c .before .before .before .height .ensures .0)) (a .route .now) (c .before .before .before .before .before .before .before .before .before .before .before .before .before .before .pre .1 .pathClear)
+    part-long 0 (centres (a .query .window)) (a .route .now) (c .before .before .before .before .before .before .before .before .before .before .before .before .before .before .pre .1 .pathClear) (c .before .before .before .before .width .result * c .before .before .before .height .result) (ap₂ _*_ (c .before .before .before .before .width .ensures .0) (c .before .before .before .height .ensures .0))
 
 slice-aggregate-judged-4 : tie.Need-slice-aggregate-judged-4
 unfolding centres
 slice-aggregate-judged-4 c =
     let a = c .before .before .before .before .before .before .before .before .before .before .before .before .before .before .before .args in
-    part-size (c .before .before .before .before .before .width .result * c .before .before .before .before .height .result) (centres (a .query .window)) (ap₂ _*_ (c .before .before .before .before .before .width .ensures .0) (c .before .before .before .before .height .ensures .0)) (a .route .now) (c .before .before .before .before .before .before .before .before .before .before .before .before .before .before .before .pre .1 .pathClear)
+    part-count 0 (centres (a .query .window)) (a .route .now) (c .before .before .before .before .before .before .before .before .before .before .before .before .before .before .before .pre .1 .pathClear) (c .before .before .before .before .before .width .result * c .before .before .before .before .height .result) (ap₂ _*_ (c .before .before .before .before .before .width .ensures .0) (c .before .before .before .before .height .ensures .0))
 
 judged-requires : tie.Need-judged-requires
 unfolding centres
@@ -73,10 +73,10 @@ judged-requires c κs =
     let a = c .before .before .before .before .before .before .before .before .before .before .before .before .before .before .before .args in (
       c .before .before .before .before .before .before .before .before .before .before .before .before .before .before .before .pre .0,
       record {
-        mapClear = part-clear (c .before .before .before .before .before .width .result * c .before .before .before .before .height .result) (centres (a .query .window)) (ap₂ _*_ (c .before .before .before .before .before .width .ensures .0) (c .before .before .before .before .height .ensures .0)) (a .map .now) (c .before .before .before .before .before .before .before .before .before .before .before .before .before .before .before .pre .1 .mapClear);
-        queueClear = part-clear (c .before .before .before .before .before .width .result * c .before .before .before .before .height .result) (centres (a .query .window)) (ap₂ _*_ (c .before .before .before .before .before .width .ensures .0) (c .before .before .before .before .height .ensures .0)) (a .queue .now) (c .before .before .before .before .before .before .before .before .before .before .before .before .before .before .before .pre .1 .queueClear);
-        previousClear = part-clear (c .before .before .before .before .before .width .result * c .before .before .before .before .height .result) (centres (a .query .window)) (ap₂ _*_ (c .before .before .before .before .before .width .ensures .0) (c .before .before .before .before .height .ensures .0)) (a .predecessors .now) (c .before .before .before .before .before .before .before .before .before .before .before .before .before .before .before .pre .1 .previousClear);
-        pathClear = part-clear (c .before .before .before .before .before .width .result * c .before .before .before .before .height .result) (centres (a .query .window)) (ap₂ _*_ (c .before .before .before .before .before .width .ensures .0) (c .before .before .before .before .height .ensures .0)) (a .route .now) (c .before .before .before .before .before .before .before .before .before .before .before .before .before .before .before .pre .1 .pathClear);
+        mapClear = part-clear 0 (centres (a .query .window)) (a .map .now) (c .before .before .before .before .before .before .before .before .before .before .before .before .before .before .before .pre .1 .mapClear) (c .before .before .before .before .before .width .result * c .before .before .before .before .height .result) (ap₂ _*_ (c .before .before .before .before .before .width .ensures .0) (c .before .before .before .before .height .ensures .0));
+        queueClear = part-clear 0 (centres (a .query .window)) (a .queue .now) (c .before .before .before .before .before .before .before .before .before .before .before .before .before .before .before .pre .1 .queueClear) (c .before .before .before .before .before .width .result * c .before .before .before .before .height .result) (ap₂ _*_ (c .before .before .before .before .before .width .ensures .0) (c .before .before .before .before .height .ensures .0));
+        previousClear = part-clear 0 (centres (a .query .window)) (a .predecessors .now) (c .before .before .before .before .before .before .before .before .before .before .before .before .before .before .before .pre .1 .previousClear) (c .before .before .before .before .before .width .result * c .before .before .before .before .height .result) (ap₂ _*_ (c .before .before .before .before .before .width .ensures .0) (c .before .before .before .before .height .ensures .0));
+        pathClear = part-clear 0 (centres (a .query .window)) (a .route .now) (c .before .before .before .before .before .before .before .before .before .before .before .before .before .before .before .pre .1 .pathClear) (c .before .before .before .before .before .width .result * c .before .before .before .before .height .result) (ap₂ _*_ (c .before .before .before .before .before .width .ensures .0) (c .before .before .before .before .height .ensures .0));
       },
     )
 
@@ -84,25 +84,25 @@ same-length : tie.Need-same-length
 unfolding centres
 same-length c =
     let a = c .before .before .before .before .before .before .before .before .before .before .before .before .before .before .before .before .before .before .before .before .before .before .before .before .args in
-    ap length (part-back (c .before .before .before .before .before .before .before .before .before .before .before .before .before .before .width .result * c .before .before .before .before .before .before .before .before .before .before .before .before .before .height .result) (centres (a .query .window)) (ap₂ _*_ (c .before .before .before .before .before .before .before .before .before .before .before .before .before .before .width .ensures .0) (c .before .before .before .before .before .before .before .before .before .before .before .before .before .height .ensures .0)) (a .map .now) (c .before .before .before .before .before .before .before .before .before .before .before .before .before .before .before .before .before .before .before .before .before .before .before .before .pre .1 .mapClear) (c .before .before .before .before .before .before .before .before .judged .last .1 .1 .1 .1 .1 .1 .1 .0) (c .before .before .before .before .before .before .before .before .judged .ensures .1 .mapClear))
+    ap length (part-back 0 (centres (a .query .window)) (a .map .now) (c .before .before .before .before .before .before .before .before .before .before .before .before .before .before .before .before .before .before .before .before .before .before .before .before .pre .1 .mapClear) (c .before .before .before .before .before .before .before .before .before .before .before .before .before .before .width .result * c .before .before .before .before .before .before .before .before .before .before .before .before .before .height .result) (ap₂ _*_ (c .before .before .before .before .before .before .before .before .before .before .before .before .before .before .width .ensures .0) (c .before .before .before .before .before .before .before .before .before .before .before .before .before .height .ensures .0)) (c .before .before .before .before .before .before .before .before .judged .last .1 .1 .1 .1 .1 .1 .1 .0) (c .before .before .before .before .before .before .before .before .judged .ensures .1 .mapClear))
 
 same-length-2 : tie.Need-same-length-2
 unfolding centres
 same-length-2 c =
     let a = c .before .before .before .before .before .before .before .before .before .before .before .before .before .before .before .before .before .before .before .before .before .before .before .before .args in
-    ap length (part-back (c .before .before .before .before .before .before .before .before .before .before .before .before .before .before .width .result * c .before .before .before .before .before .before .before .before .before .before .before .before .before .height .result) (centres (a .query .window)) (ap₂ _*_ (c .before .before .before .before .before .before .before .before .before .before .before .before .before .before .width .ensures .0) (c .before .before .before .before .before .before .before .before .before .before .before .before .before .height .ensures .0)) (a .queue .now) (c .before .before .before .before .before .before .before .before .before .before .before .before .before .before .before .before .before .before .before .before .before .before .before .before .pre .1 .queueClear) (c .before .before .before .before .before .before .before .before .judged .last .1 .1 .1 .1 .1 .1 .1 .1 .0) (c .before .before .before .before .before .before .before .before .judged .ensures .1 .queueClear))
+    ap length (part-back 0 (centres (a .query .window)) (a .queue .now) (c .before .before .before .before .before .before .before .before .before .before .before .before .before .before .before .before .before .before .before .before .before .before .before .before .pre .1 .queueClear) (c .before .before .before .before .before .before .before .before .before .before .before .before .before .before .width .result * c .before .before .before .before .before .before .before .before .before .before .before .before .before .height .result) (ap₂ _*_ (c .before .before .before .before .before .before .before .before .before .before .before .before .before .before .width .ensures .0) (c .before .before .before .before .before .before .before .before .before .before .before .before .before .height .ensures .0)) (c .before .before .before .before .before .before .before .before .judged .last .1 .1 .1 .1 .1 .1 .1 .1 .0) (c .before .before .before .before .before .before .before .before .judged .ensures .1 .queueClear))
 
 same-length-3 : tie.Need-same-length-3
 unfolding centres
 same-length-3 c =
     let a = c .before .before .before .before .before .before .before .before .before .before .before .before .before .before .before .before .before .before .before .before .before .before .before .before .args in
-    ap length (part-back (c .before .before .before .before .before .before .before .before .before .before .before .before .before .before .width .result * c .before .before .before .before .before .before .before .before .before .before .before .before .before .height .result) (centres (a .query .window)) (ap₂ _*_ (c .before .before .before .before .before .before .before .before .before .before .before .before .before .before .width .ensures .0) (c .before .before .before .before .before .before .before .before .before .before .before .before .before .height .ensures .0)) (a .predecessors .now) (c .before .before .before .before .before .before .before .before .before .before .before .before .before .before .before .before .before .before .before .before .before .before .before .before .pre .1 .previousClear) (c .before .before .before .before .before .before .before .before .judged .last .1 .1 .1 .1 .1 .1 .1 .1 .1 .0) (c .before .before .before .before .before .before .before .before .judged .ensures .1 .previousClear))
+    ap length (part-back 0 (centres (a .query .window)) (a .predecessors .now) (c .before .before .before .before .before .before .before .before .before .before .before .before .before .before .before .before .before .before .before .before .before .before .before .before .pre .1 .previousClear) (c .before .before .before .before .before .before .before .before .before .before .before .before .before .before .width .result * c .before .before .before .before .before .before .before .before .before .before .before .before .before .height .result) (ap₂ _*_ (c .before .before .before .before .before .before .before .before .before .before .before .before .before .before .width .ensures .0) (c .before .before .before .before .before .before .before .before .before .before .before .before .before .height .ensures .0)) (c .before .before .before .before .before .before .before .before .judged .last .1 .1 .1 .1 .1 .1 .1 .1 .1 .0) (c .before .before .before .before .before .before .before .before .judged .ensures .1 .previousClear))
 
 same-length-4 : tie.Need-same-length-4
 unfolding centres
 same-length-4 c =
     let a = c .before .before .before .before .before .before .before .before .before .before .before .before .before .before .before .before .before .before .before .before .before .before .before .before .args in
-    ap length (part-back (c .before .before .before .before .before .before .before .before .before .before .before .before .before .before .width .result * c .before .before .before .before .before .before .before .before .before .before .before .before .before .height .result) (centres (a .query .window)) (ap₂ _*_ (c .before .before .before .before .before .before .before .before .before .before .before .before .before .before .width .ensures .0) (c .before .before .before .before .before .before .before .before .before .before .before .before .before .height .ensures .0)) (a .route .now) (c .before .before .before .before .before .before .before .before .before .before .before .before .before .before .before .before .before .before .before .before .before .before .before .before .pre .1 .pathClear) (c .before .before .before .before .before .before .before .before .judged .last .1 .1 .1 .1 .1 .1 .1 .1 .1 .1 .0) (c .before .before .before .before .before .before .before .before .judged .ensures .1 .pathClear))
+    ap length (part-back 0 (centres (a .query .window)) (a .route .now) (c .before .before .before .before .before .before .before .before .before .before .before .before .before .before .before .before .before .before .before .before .before .before .before .before .pre .1 .pathClear) (c .before .before .before .before .before .before .before .before .before .before .before .before .before .before .width .result * c .before .before .before .before .before .before .before .before .before .before .before .before .before .height .result) (ap₂ _*_ (c .before .before .before .before .before .before .before .before .before .before .before .before .before .before .width .ensures .0) (c .before .before .before .before .before .before .before .before .before .before .before .before .before .height .ensures .0)) (c .before .before .before .before .before .before .before .before .judged .last .1 .1 .1 .1 .1 .1 .1 .1 .1 .1 .0) (c .before .before .before .before .before .before .before .before .judged .ensures .1 .pathClear))
 
 returns : tie.Need-returns
 unfolding centres
@@ -110,10 +110,10 @@ returns c =
     let a = c .before .before .before .before .before .before .before .before .before .before .before .before .before .before .before .before .before .before .before .before .before .before .before .before .args in (
       c .before .before .before .before .before .before .before .before .judged .ensures .0,
       record {
-        mapSame = part-back (c .before .before .before .before .before .before .before .before .before .before .before .before .before .before .width .result * c .before .before .before .before .before .before .before .before .before .before .before .before .before .height .result) (centres (a .query .window)) (ap₂ _*_ (c .before .before .before .before .before .before .before .before .before .before .before .before .before .before .width .ensures .0) (c .before .before .before .before .before .before .before .before .before .before .before .before .before .height .ensures .0)) (a .map .now) (c .before .before .before .before .before .before .before .before .before .before .before .before .before .before .before .before .before .before .before .before .before .before .before .before .pre .1 .mapClear) (c .before .before .before .before .before .before .before .before .judged .last .1 .1 .1 .1 .1 .1 .1 .0) (c .before .before .before .before .before .before .before .before .judged .ensures .1 .mapClear);
-        queueSame = part-back (c .before .before .before .before .before .before .before .before .before .before .before .before .before .before .width .result * c .before .before .before .before .before .before .before .before .before .before .before .before .before .height .result) (centres (a .query .window)) (ap₂ _*_ (c .before .before .before .before .before .before .before .before .before .before .before .before .before .before .width .ensures .0) (c .before .before .before .before .before .before .before .before .before .before .before .before .before .height .ensures .0)) (a .queue .now) (c .before .before .before .before .before .before .before .before .before .before .before .before .before .before .before .before .before .before .before .before .before .before .before .before .pre .1 .queueClear) (c .before .before .before .before .before .before .before .before .judged .last .1 .1 .1 .1 .1 .1 .1 .1 .0) (c .before .before .before .before .before .before .before .before .judged .ensures .1 .queueClear);
-        previousSame = part-back (c .before .before .before .before .before .before .before .before .before .before .before .before .before .before .width .result * c .before .before .before .before .before .before .before .before .before .before .before .before .before .height .result) (centres (a .query .window)) (ap₂ _*_ (c .before .before .before .before .before .before .before .before .before .before .before .before .before .before .width .ensures .0) (c .before .before .before .before .before .before .before .before .before .before .before .before .before .height .ensures .0)) (a .predecessors .now) (c .before .before .before .before .before .before .before .before .before .before .before .before .before .before .before .before .before .before .before .before .before .before .before .before .pre .1 .previousClear) (c .before .before .before .before .before .before .before .before .judged .last .1 .1 .1 .1 .1 .1 .1 .1 .1 .0) (c .before .before .before .before .before .before .before .before .judged .ensures .1 .previousClear);
-        pathSame = part-back (c .before .before .before .before .before .before .before .before .before .before .before .before .before .before .width .result * c .before .before .before .before .before .before .before .before .before .before .before .before .before .height .result) (centres (a .query .window)) (ap₂ _*_ (c .before .before .before .before .before .before .before .before .before .before .before .before .before .before .width .ensures .0) (c .before .before .before .before .before .before .before .before .before .before .before .before .before .height .ensures .0)) (a .route .now) (c .before .before .before .before .before .before .before .before .before .before .before .before .before .before .before .before .before .before .before .before .before .before .before .before .pre .1 .pathClear) (c .before .before .before .before .before .before .before .before .judged .last .1 .1 .1 .1 .1 .1 .1 .1 .1 .1 .0) (c .before .before .before .before .before .before .before .before .judged .ensures .1 .pathClear);
+        mapSame = part-back 0 (centres (a .query .window)) (a .map .now) (c .before .before .before .before .before .before .before .before .before .before .before .before .before .before .before .before .before .before .before .before .before .before .before .before .pre .1 .mapClear) (c .before .before .before .before .before .before .before .before .before .before .before .before .before .before .width .result * c .before .before .before .before .before .before .before .before .before .before .before .before .before .height .result) (ap₂ _*_ (c .before .before .before .before .before .before .before .before .before .before .before .before .before .before .width .ensures .0) (c .before .before .before .before .before .before .before .before .before .before .before .before .before .height .ensures .0)) (c .before .before .before .before .before .before .before .before .judged .last .1 .1 .1 .1 .1 .1 .1 .0) (c .before .before .before .before .before .before .before .before .judged .ensures .1 .mapClear);
+        queueSame = part-back 0 (centres (a .query .window)) (a .queue .now) (c .before .before .before .before .before .before .before .before .before .before .before .before .before .before .before .before .before .before .before .before .before .before .before .before .pre .1 .queueClear) (c .before .before .before .before .before .before .before .before .before .before .before .before .before .before .width .result * c .before .before .before .before .before .before .before .before .before .before .before .before .before .height .result) (ap₂ _*_ (c .before .before .before .before .before .before .before .before .before .before .before .before .before .before .width .ensures .0) (c .before .before .before .before .before .before .before .before .before .before .before .before .before .height .ensures .0)) (c .before .before .before .before .before .before .before .before .judged .last .1 .1 .1 .1 .1 .1 .1 .1 .0) (c .before .before .before .before .before .before .before .before .judged .ensures .1 .queueClear);
+        previousSame = part-back 0 (centres (a .query .window)) (a .predecessors .now) (c .before .before .before .before .before .before .before .before .before .before .before .before .before .before .before .before .before .before .before .before .before .before .before .before .pre .1 .previousClear) (c .before .before .before .before .before .before .before .before .before .before .before .before .before .before .width .result * c .before .before .before .before .before .before .before .before .before .before .before .before .before .height .result) (ap₂ _*_ (c .before .before .before .before .before .before .before .before .before .before .before .before .before .before .width .ensures .0) (c .before .before .before .before .before .before .before .before .before .before .before .before .before .height .ensures .0)) (c .before .before .before .before .before .before .before .before .judged .last .1 .1 .1 .1 .1 .1 .1 .1 .1 .0) (c .before .before .before .before .before .before .before .before .judged .ensures .1 .previousClear);
+        pathSame = part-back 0 (centres (a .query .window)) (a .route .now) (c .before .before .before .before .before .before .before .before .before .before .before .before .before .before .before .before .before .before .before .before .before .before .before .before .pre .1 .pathClear) (c .before .before .before .before .before .before .before .before .before .before .before .before .before .before .width .result * c .before .before .before .before .before .before .before .before .before .before .before .before .before .height .result) (ap₂ _*_ (c .before .before .before .before .before .before .before .before .before .before .before .before .before .before .width .ensures .0) (c .before .before .before .before .before .before .before .before .before .before .before .before .before .height .ensures .0)) (c .before .before .before .before .before .before .before .before .judged .last .1 .1 .1 .1 .1 .1 .1 .1 .1 .1 .0) (c .before .before .before .before .before .before .before .before .judged .ensures .1 .pathClear);
       },
     )
 

@@ -1,59 +1,62 @@
--- `numbered::record_of` meets its contract.
-use mathlib.Core.Path.{_≡_}
-use mathlib.Core.List.{List}
-use Prim.Native.Nat.{ℕ}
+-- `numbered::record_of` meets its contract: the rows are copied out whole, and the record is made field by field.
+use mathlib.Core.Path.{_≡_, _∙_, ap, ap₂}
+use mathlib.Core.List.{List, _++_, append-nil}
+use Prim.Native.Nat.{ℕ, _-_}
+use native.Mathlib.Omega.{arith}
 use lib.Dec.{eqb}
 use lib.ListN.{getD, take, drop}
-use Rattle.numbered.specs.Numbers.{recordOf}
+use lib.Seq.{take-take}
 use borrow.Author.Needs.{needs}
+use Rattle.laws.specs.Fill.{zeros}
+use Rattle.laws.proofs.Stores.{drop-replicate}
+use Rattle.numbered.specs.Numbers.{recordOf}
 use Rattle.numbered.proofs.record_of.Statement.{statement}
 use Rattle.numbered.proofs.record_of.Tie as tie
-use Rattle.numbered.proofs.copy.Reads as copy-reads
 
-slice-aggregate-copy : tie.Need-slice-aggregate-copy
-slice-aggregate-copy c = search needs
+slice-aggregate-copy-u32 : tie.Need-slice-aggregate-copy-u32
+slice-aggregate-copy-u32 c = search needs
 
-sub-copy : tie.Need-sub-copy
-sub-copy c = search needs
+sub-copy-u32 : tie.Need-sub-copy-u32
+sub-copy-u32 c = search needs
 
-part-copy-start : tie.Need-part-copy-start
-part-copy-start c = search needs
+part-copy-u32-start : tie.Need-part-copy-u32-start
+part-copy-u32-start c = search needs
 
-part-copy-end : tie.Need-part-copy-end
-part-copy-end c = search needs
+part-copy-u32-end : tie.Need-part-copy-u32-end
+part-copy-u32-end c = search needs
 
-copy-requires : tie.Need-copy-requires
-copy-requires c κs = search needs
+copy-u32-requires : tie.Need-copy-u32-requires
+copy-u32-requires c κs = search needs
 
-slice-aggregate-copy-2 : tie.Need-slice-aggregate-copy-2
-slice-aggregate-copy-2 c = search needs
+slice-aggregate-copy-u32-2 : tie.Need-slice-aggregate-copy-u32-2
+slice-aggregate-copy-u32-2 c = search needs
 
-sub-copy-2 : tie.Need-sub-copy-2
-sub-copy-2 c = search needs
+sub-copy-u32-2 : tie.Need-sub-copy-u32-2
+sub-copy-u32-2 c = search needs
 
-part-copy-start-2 : tie.Need-part-copy-start-2
-part-copy-start-2 c = search needs
+part-copy-u32-start-2 : tie.Need-part-copy-u32-start-2
+part-copy-u32-start-2 c = search needs
 
-part-copy-end-2 : tie.Need-part-copy-end-2
-part-copy-end-2 c = search needs
+part-copy-u32-end-2 : tie.Need-part-copy-u32-end-2
+part-copy-u32-end-2 c = search needs
 
-copy-requires-2 : tie.Need-copy-requires-2
-copy-requires-2 c κs = search needs
+copy-u32-requires-2 : tie.Need-copy-u32-requires-2
+copy-u32-requires-2 c κs = search needs
 
-slice-aggregate-copy-3 : tie.Need-slice-aggregate-copy-3
-slice-aggregate-copy-3 c = search needs
+slice-aggregate-copy-u32-3 : tie.Need-slice-aggregate-copy-u32-3
+slice-aggregate-copy-u32-3 c = search needs
 
-sub-copy-3 : tie.Need-sub-copy-3
-sub-copy-3 c = search needs
+sub-copy-u32-3 : tie.Need-sub-copy-u32-3
+sub-copy-u32-3 c = search needs
 
-part-copy-start-3 : tie.Need-part-copy-start-3
-part-copy-start-3 c = search needs
+part-copy-u32-start-3 : tie.Need-part-copy-u32-start-3
+part-copy-u32-start-3 c = search needs
 
-part-copy-end-3 : tie.Need-part-copy-end-3
-part-copy-end-3 c = search needs
+part-copy-u32-end-3 : tie.Need-part-copy-u32-end-3
+part-copy-u32-end-3 c = search needs
 
-copy-requires-3 : tie.Need-copy-requires-3
-copy-requires-3 c κs = search needs
+copy-u32-requires-3 : tie.Need-copy-u32-requires-3
+copy-u32-requires-3 c κs = search needs
 
 shared-slice-read-t23 : tie.Need-shared-slice-read-t23
 shared-slice-read-t23 c = search needs
@@ -73,6 +76,12 @@ shared-slice-read-t31 c = search needs
 shared-slice-read-t33 : tie.Need-shared-slice-read-t33
 shared-slice-read-t33 c = search needs
 
+-- n entries copied over as many zeros
+whole : (n : ℕ) (xs : List ℕ) → take n (take n xs) ++ drop n (zeros n) ≡ take n xs
+whole n xs =
+    ap₂ (λ (x y : List ℕ). x ++ y) (take-take n n xs (omega arith)) (drop-replicate 0 n n ∙ ap (λ (k : ℕ). zeros k) (let z : n - n ≡ 0 = omega arith in z))
+    ∙ append-nil (take n xs)
+
 -- the record, field by field
 made : (ns a b d : List ℕ) → a ≡ take 32 (drop 6 ns) → b ≡ take 6 (drop 38 ns) → d ≡ take 6 (drop 44 ns)
     → record {
@@ -90,27 +99,29 @@ unfolding recordOf
 made ns a b d ea eb ed = rw (ea, eb, ed)
 
 returns : tie.Need-returns
-returns c = made (c .before .before .before .before .before .before .before .before .before .before .before .before .before .before .before .before .before .before .before .args .rec .now) _ _ _ (c .before .before .before .before .before .before .before .before .before .before .before .before .before .before .before .copy .ensures) (c .before .before .before .before .before .before .before .before .before .before .before .copy2 .ensures) (c .before .before .before .before .before .before .before .copy3 .ensures)
+returns c =
+    let ns = c .before .before .before .before .before .before .before .before .before .before .before .before .before .before .before .before .before .before .before .args .rec .now in
+    made ns _ _ _ (c .before .before .before .before .before .before .before .before .before .before .before .before .before .before .before .copy-u32 .ensures ∙ whole 32 (drop 6 ns)) (c .before .before .before .before .before .before .before .before .before .before .before .copy-u322 .ensures ∙ whole 6 (drop 38 ns)) (c .before .before .before .before .before .before .before .copy-u323 .ensures ∙ whole 6 (drop 44 ns))
 
 pub record-of-spec : {M : Type 1} → statement M
 record-of-spec =
     tie.close
     (tie.spec
-    slice-aggregate-copy
-    sub-copy
-    part-copy-start
-    part-copy-end
-    copy-requires
-    slice-aggregate-copy-2
-    sub-copy-2
-    part-copy-start-2
-    part-copy-end-2
-    copy-requires-2
-    slice-aggregate-copy-3
-    sub-copy-3
-    part-copy-start-3
-    part-copy-end-3
-    copy-requires-3
+    slice-aggregate-copy-u32
+    sub-copy-u32
+    part-copy-u32-start
+    part-copy-u32-end
+    copy-u32-requires
+    slice-aggregate-copy-u32-2
+    sub-copy-u32-2
+    part-copy-u32-start-2
+    part-copy-u32-end-2
+    copy-u32-requires-2
+    slice-aggregate-copy-u32-3
+    sub-copy-u32-3
+    part-copy-u32-start-3
+    part-copy-u32-end-3
+    copy-u32-requires-3
     shared-slice-read-t23
     shared-slice-read-t25
     shared-slice-read-t27

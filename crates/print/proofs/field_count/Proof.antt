@@ -2,7 +2,7 @@
 use borrow.Author.Needs.{needs}
 use lib.ListN.{length}
 use mathlib.Core.Path.{sym, ap, _∙_}
-use Rattle.print.proofs.Laying.{field-signed, field-plain}
+use Rattle.print.proofs.Lines.{field-signed, field-plain}
 use Rattle.print.proofs.field_count.Statement.{statement}
 use Rattle.print.proofs.field_count.Tie as tie
 

@@ -3,7 +3,7 @@ use borrow.Author.Needs.{needs}
 use lib.ListN.{length}
 use mathlib.Core.Path.{ap}
 use native.Mathlib.Omega.{arith}
-use Rattle.print.proofs.Laying.{field-signed, field-plain}
+use Rattle.print.proofs.Lines.{field-signed, field-plain}
 use Rattle.print.proofs.Puts.{put-same}
 use Rattle.print.proofs.field_put.Statement.{statement}
 use Rattle.print.proofs.field_put.Tie as tie

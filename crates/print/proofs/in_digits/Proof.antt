@@ -3,7 +3,7 @@ use Prim.Native.Nat.{_-_}
 use borrow.Author.Tests.{lt-ltb, ltb-true}
 use lib.ListN.{length}
 use native.Mathlib.Omega.{arith}
-use Rattle.print.proofs.Laying.{Low, low-start, low-more, low-not, low-done}
+use Rattle.print.proofs.Digits.{Low, low-start, low-more, low-not, low-done}
 use Rattle.print.proofs.in_digits.Statement.{statement}
 use Rattle.print.proofs.in_digits.Tie as tie
 

@@ -1,6 +1,6 @@
 -- `in_field`: any word for `#`, else what is not above the limit.
 use borrow.Author.Needs.{needs}
-use Rattle.print.proofs.Laying.{field-word, field-limit}
+use Rattle.print.proofs.Lines.{field-word, field-limit}
 use Rattle.print.proofs.in_field.Statement.{statement}
 use Rattle.print.proofs.in_field.Tie as tie
 

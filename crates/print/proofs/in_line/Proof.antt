@@ -5,7 +5,7 @@ use borrow.Author.Tests.{not-true, not-false}
 use lib.ListN.{length}
 use mathlib.Core.Path.{sym, _∙_}
 use native.Mathlib.Omega.{arith}
-use Rattle.print.proofs.Laying.{Matching, matching-start, matching-byte, matching-none, matching-out, matching-value, matching-done}
+use Rattle.print.proofs.Lines.{Matching, matching-start, matching-byte, matching-none, matching-out, matching-value, matching-done}
 use Rattle.print.proofs.in_line.Statement.{statement}
 use Rattle.print.proofs.in_line.Tie as tie
 

@@ -31,10 +31,17 @@ number-put-requires-2 : tie.Need-number-put-requires-2
 number-put-requires-2 c κs = omega (arith, minus-long (c .before .before .before .args .x) (c .before .if1 .left) (c .before .before .before .fits .x .fits), length-set (c .before .before .before .args .out .now) (c .before .before .before .args .at) 45)
 
 same-length-2 : tie.Need-same-length-2
-same-length-2 c = put-length _ (c .before .before .before .before .before .before .args .out .now) _ _ _ (put-minus _ (c .before .before .before .before .before .before .args .out .now) _ _ _ (c .before .before .before .before .if1 .left) (c .before .before .before .before .before .before .fits .x .fits) (c .before .before .number-put2 .ensures))
+same-length-2 c =
+    let a = c .before .before .before .before .before .before .args in
+    let put = c .before .before .number-put2 in
+    put-length _ (a .out .now) _ _ _
+    (put-minus (a .x) (a .out .now) (put .last .0) (a .at) (put .result) (c .before .before .before .before .if1 .left) (c .before .before .before .before .before .before .fits .x .fits) (put .ensures))
 
 returns-2 : tie.Need-returns-2
-returns-2 c = put-minus _ _ _ _ _ (c .before .before .before .before .if1 .left) (c .before .before .before .before .before .before .fits .x .fits) (c .before .before .number-put2 .ensures)
+returns-2 c =
+    let a = c .before .before .before .before .before .before .args in
+    let put = c .before .before .number-put2 in
+    put-minus (a .x) (a .out .now) (put .last .0) (a .at) (put .result) (c .before .before .before .before .if1 .left) (c .before .before .before .before .before .before .fits .x .fits) (put .ensures)
 
 pub integer-put-spec : {M : Type 1} → statement M
 integer-put-spec =

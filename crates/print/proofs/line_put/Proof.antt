@@ -4,7 +4,7 @@ use borrow.Author.Needs.{needs}
 use lib.ListN.{length}
 use mathlib.Core.Path.{sym, _∙_}
 use native.Mathlib.Omega.{arith}
-use Rattle.print.proofs.Laying.{Laid, laid-start, laid-value, laid-room, laid-field, laid-inside, laid-byte, laid-done, laid-long}
+use Rattle.print.proofs.Lines.{Laid, laid-start, laid-value, laid-room, laid-field, laid-inside, laid-byte, laid-done, laid-long}
 use Rattle.print.proofs.line_put.Statement.{statement}
 use Rattle.print.proofs.line_put.Tie as tie
 

@@ -4,7 +4,7 @@ use borrow.Author.Needs.{needs}
 use lib.ListN.{length}
 use mathlib.Core.Path.{sym, _∙_}
 use native.Mathlib.Omega.{arith}
-use Rattle.print.proofs.Laying.{Measuring, measuring-start, measuring-value, measuring-short, measuring-field, measuring-full, measuring-byte, measuring-done}
+use Rattle.print.proofs.Lines.{Measuring, measuring-start, measuring-value, measuring-short, measuring-field, measuring-full, measuring-byte, measuring-done}
 use Rattle.print.proofs.line_room.Statement.{statement}
 use Rattle.print.proofs.line_room.Tie as tie
 

@@ -1,20 +1,20 @@
--- `put_digits`: the first k digits are laid down. The measure is what is left of them.
-use Prim.Native.Nat.{_+_, _-_}
+-- `put_digits`: the loop writes the byte of each digit. The measure is what is left of them.
 use borrow.Author.Needs.{needs}
-use borrow.Author.Tests.{not-true, not-false}
-use lib.ListN.{length}
-use mathlib.Core.List.{map}
-use mathlib.Core.Path.{refl}
-use mathlib.Core.Path.{sym, _∙_}
+use borrow.Author.Tests.{not-true, not-false, leb-true}
+use mathlib.Core.Path.{refl, sym, ap, _∙_}
 use native.Mathlib.Omega.{arith}
-use Rattle.print.proofs.Laying.{Laying, laying-start, laying-long, laying-inside, laying-more, laying-done, spelled-at, spelled-long, digit-at}
-use Rattle.print.proofs.Puts.{room-of, no-room, fitted}
+use Prim.Native.Nat.{ℕ, _+_, _-_, _≤_}
+use lib.ListN.{length, getD, length-map}
+use Rattle.laws.specs.Fill.{over, FillingFrom}
+use Rattle.laws.proofs.Fill.{filling-from-none, filling-from-more, filling-from-all, filled-over}
 use Rattle.text.specs.Forms.{digits}
+use Rattle.print.proofs.Digits.{spelled-table, digit-at}
+use Rattle.print.proofs.Puts.{no-room, fitted, put-over}
 use Rattle.print.proofs.put_digits.Statement.{statement}
 use Rattle.print.proofs.put_digits.Tie as tie
 
 abbrev Inv-loop : tie.InvT-loop
-Inv-loop out₀ at values k₀ out k = Laying (map (λ d. 48 + d) values) out₀ at out k
+Inv-loop out₀ at values k₀ out k = (at + length values ≤ length out₀) × FillingFrom (λ (i : ℕ). 48 + getD values i 0) at (length values) out₀ out k
 
 abbrev μ-loop : tie.MeasureT-loop
 μ-loop out₀ at values k₀ out k = length values - k
@@ -29,40 +29,62 @@ has-room-requires : tie.Need-has-room-requires Inv-loop μ-loop
 has-room-requires c κs = search needs
 
 returns-2 : tie.Need-returns-2 Inv-loop μ-loop
-returns-2 c = no-room digits (c .before .before .before .before .before .before .args .values .now) (c .before .before .before .before .before .before .args .out .now) (c .before .before .before .before .before .before .args .at) _ (c .before .before .before .in-digits .ensures .yes (not-false _ (c .before .before .if1 .left))) (sym (spelled-long (c .before .before .before .before .before .before .args .values .now))) (sym (c .before .has-room .ensures) ∙ not-true _ (c .if2 .taken))
+returns-2 c =
+    let a = c .before .before .before .before .before .before .args in
+    let fits = c .before .before .before .in-digits .ensures .yes (not-false _ (c .before .before .if1 .left)) in
+    no-room digits (a .values .now) (a .out .now) (a .at) _ fits (sym (length-map (a .values .now) (λ (d : ℕ). 48 + d))) (sym (c .before .has-room .ensures) ∙ not-true _ (c .if2 .taken))
 
 loop-holds : tie.Need-loop-holds Inv-loop μ-loop
-loop-holds c = laying-start _ _ _ (room-of digits (c .before .before .before .before .before .before .args .values .now) (c .before .before .before .before .before .before .args .out .now) (c .before .before .before .before .before .before .args .at) _ (c .before .before .before .in-digits .ensures .yes (not-false _ (c .before .before .if1 .left))) (sym (spelled-long (c .before .before .before .before .before .before .args .values .now))) (sym (c .before .has-room .ensures) ∙ not-false _ (c .if2 .left)))
+loop-holds c =
+    let a = c .before .before .before .before .before .before .args in
+    let room = leb-true (a .at + length (a .values .now)) (length (a .out .now)) (sym (c .before .has-room .ensures) ∙ not-false _ (c .if2 .left)) in
+    (room, filling-from-none (λ (i : ℕ). 48 + getD (a .values .now) i 0) (a .at) (length (a .values .now)) (a .out .now) room)
 
 shared-slice-read-out : tie.Need-shared-slice-read-out Inv-loop μ-loop
-shared-slice-read-out c = omega (arith, spelled-long (c .before .before .before .before .before .before .before .before .before .args .values .now), c .before .before .loop .inv .room, c .before .before .loop .inv .few, laying-long _ _ _ _ _ (c .before .before .loop .inv))
+shared-slice-read-out c = omega arith
 
 add-out : tie.Need-add-out Inv-loop μ-loop
-add-out c = omega (arith, digit-at (c .before .before .before .before .before .before .before .before .before .args .values .now) (c .before .before .before .before .before .before .in-digits .ensures .yes (not-false _ (c .before .before .before .before .before .if1 .left))) (c .before .before .loop .k) (omega arith))
+add-out c =
+    let fits = c .before .before .before .before .before .before .in-digits .ensures .yes (not-false _ (c .before .before .before .before .before .if1 .left)) in
+    omega (arith, digit-at (c .before .before .before .before .before .before .before .before .before .args .values .now) fits (c .before .before .loop .k) (omega arith))
 
 add-out-2 : tie.Need-add-out-2 Inv-loop μ-loop
-add-out-2 c = omega (arith, laying-inside _ _ _ _ _ (c .before .before .loop .inv) (omega (arith, spelled-long (c .before .before .before .before .before .before .before .before .before .args .values .now))), laying-long _ _ _ _ _ (c .before .before .loop .inv))
+add-out-2 c = omega arith
 
 slice-write-out : tie.Need-slice-write-out Inv-loop μ-loop
-slice-write-out c = laying-inside _ _ _ _ _ (c .before .before .loop .inv) (omega (arith, spelled-long (c .before .before .before .before .before .before .before .before .before .args .values .now)))
+slice-write-out c = omega arith
 
 add-k : tie.Need-add-k Inv-loop μ-loop
-add-k c = omega (arith, spelled-long (c .before .before .before .before .before .before .before .before .before .args .values .now), c .before .before .loop .inv .room, c .before .before .loop .inv .few, laying-long _ _ _ _ _ (c .before .before .loop .inv))
+add-k c = omega arith
 
 loop-less : tie.Need-loop-less Inv-loop μ-loop
-loop-less c = omega (arith, spelled-long (c .before .before .before .before .before .before .before .before .before .args .values .now), c .before .before .loop .inv .room, c .before .before .loop .inv .few, laying-long _ _ _ _ _ (c .before .before .loop .inv))
+loop-less c = omega arith
 
 loop-again : tie.Need-loop-again Inv-loop μ-loop
-loop-again c = laying-more _ _ _ _ _ (c .before .before .loop .inv) (omega (arith, spelled-long (c .before .before .before .before .before .before .before .before .before .args .values .now))) _ (spelled-at (c .before .before .before .before .before .before .before .before .before .args .values .now) (c .before .before .loop .k) (omega arith))
+loop-again c =
+    let a = c .before .before .before .before .before .before .before .before .before .args in
+    let l = c .before .before .loop in
+    (l .inv .0, filling-from-more (λ (i : ℕ). 48 + getD (a .values .now) i 0) (a .at) (length (a .values .now)) (a .out .now) (l .inv .0) (l .out) (l .k) _ (omega arith) refl (l .inv .1))
 
 add-t7 : tie.Need-add-t7 Inv-loop μ-loop
-add-t7 c = omega (arith, spelled-long (c .before .before .before .before .before .before .before .before .args .values .now), c .before .loop .inv .room, c .before .loop .inv .few, laying-long _ _ _ _ _ (c .before .loop .inv))
+add-t7 c = omega arith
 
 same-length : tie.Need-same-length Inv-loop μ-loop
-same-length c = laying-long _ _ _ _ _ (c .before .loop .inv)
+same-length c = c .before .loop .inv .1 .size
 
 returns-3 : tie.Need-returns-3 Inv-loop μ-loop
-returns-3 c = fitted digits (c .before .before .before .before .before .before .before .before .args .values .now) (c .before .before .before .before .before .before .before .before .args .out .now) (c .before .before .before .before .before .before .before .before .args .at) _ (c .before .before .before .before .before .in-digits .ensures .yes (not-false _ (c .before .before .before .before .if1 .left))) (sym (spelled-long (c .before .before .before .before .before .before .before .before .args .values .now))) (sym (c .before .before .before .has-room .ensures) ∙ not-false _ (c .before .before .if2 .left)) _ _ (laying-done _ _ _ _ _ (c .before .loop .inv) (omega (arith, spelled-long (c .before .before .before .before .before .before .before .before .args .values .now))))
+returns-3 c =
+    let a = c .before .before .before .before .before .before .before .before .args in
+    let ds = a .values .now in
+    let l = c .before .loop in
+    let fits = c .before .before .before .before .before .in-digits .ensures .yes (not-false _ (c .before .before .before .before .if1 .left)) in
+    let told = sym (c .before .before .before .has-room .ensures) ∙ not-false _ (c .before .before .if2 .left) in
+    let f : ℕ → ℕ = λ i. 48 + getD ds i 0 in
+    let long = length-map ds (λ (d : ℕ). 48 + d) in
+    let whole = filling-from-all f (a .at) (length ds) (a .out .now) (l .inv .0) (l .out) (l .k) (omega arith) (l .inv .1)
+    ∙ filled-over f (a .at) (a .out .now) (length ds) ∙ ap (over (a .out .now) (a .at)) (spelled-table ds) in
+    fitted digits ds (a .out .now) (a .at) _ fits (sym long) told (l .out) (a .at + l .k)
+    (put-over (digits .spell ds) (a .out .now) (l .out) (a .at) (a .at + l .k) (omega (arith, long)) whole (omega (arith, long)))
 
 pub put-digits-spec : {M : Type 1} → statement M
 put-digits-spec =

@@ -3,7 +3,7 @@ use borrow.Author.Needs.{needs}
 use borrow.Author.Tests.{not-true, not-false}
 use mathlib.Core.Path.{sym, _∙_}
 use native.Mathlib.Omega.{arith}
-use Rattle.print.proofs.Laying.{line-refused, line-counted, line-beyond, line-crowded, line-roomy, line-written}
+use Rattle.print.proofs.Lines.{line-refused, line-counted, line-beyond, line-crowded, line-roomy, line-written}
 use Rattle.print.proofs.put_line.Statement.{statement}
 use Rattle.print.proofs.put_line.Tie as tie
 

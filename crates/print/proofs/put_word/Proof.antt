@@ -1,74 +1,78 @@
--- `put_word`: the first k bytes are laid down. The measure is what is left of them.
-use Prim.Native.Nat.{_-_}
+-- `put_word`: the part from `at` on is lent to `copy_u8` and comes back with the word stored in it.
 use borrow.Author.Needs.{needs}
-use borrow.Author.Tests.{not-true, not-false}
-use lib.ListN.{length}
-use mathlib.Core.Path.{refl}
-use mathlib.Core.Path.{sym, _∙_}
+use borrow.Author.Tests.{not-true, not-false, leb-true}
+use mathlib.Core.List.{List, _++_}
+use mathlib.Core.Path.{_≡_, refl, sym, ap, _∙_}
 use native.Mathlib.Omega.{arith}
-use Rattle.print.proofs.Laying.{Laying, laying-start, laying-long, laying-inside, laying-more, laying-done}
-use Rattle.print.proofs.Puts.{room-of, no-room, fitted}
+use Prim.Native.Nat.{_+_, _-_}
+use lib.ListN.{length, take, drop, length-drop}
+use lib.Seq.{take-length, length-take-le}
+use Rattle.laws.proofs.Stores.{over-lent}
 use Rattle.text.specs.Forms.{word}
+use Rattle.print.proofs.Puts.{no-room, fitted, put-over}
 use Rattle.print.proofs.put_word.Statement.{statement}
 use Rattle.print.proofs.put_word.Tie as tie
 
-abbrev Inv-loop : tie.InvT-loop
-Inv-loop out₀ at bytes k₀ out k = Laying bytes out₀ at out k
-
-abbrev μ-loop : tie.MeasureT-loop
-μ-loop out₀ at bytes k₀ out k = length bytes - k
-
-has-room-requires : tie.Need-has-room-requires Inv-loop μ-loop
+has-room-requires : tie.Need-has-room-requires
 has-room-requires c κs = search needs
 
-returns : tie.Need-returns Inv-loop μ-loop
-returns c = no-room (word (c .before .before .before .before .args .bytes .now)) tt (c .before .before .before .before .args .out .now) (c .before .before .before .before .args .at) _ tt refl (sym (c .before .has-room .ensures) ∙ not-true _ (c .if1 .taken))
+returns : tie.Need-returns
+returns c =
+    let a = c .before .before .before .before .args in
+    no-room (word (a .bytes .now)) tt (a .out .now) (a .at) _ tt refl (sym (c .before .has-room .ensures) ∙ not-true _ (c .if1 .taken))
 
-loop-holds : tie.Need-loop-holds Inv-loop μ-loop
-loop-holds c = laying-start _ _ _ (room-of (word (c .before .before .before .before .args .bytes .now)) tt (c .before .before .before .before .args .out .now) (c .before .before .before .before .args .at) _ tt refl (sym (c .before .has-room .ensures) ∙ not-false _ (c .if1 .left)))
+sub-copy-u8 : tie.Need-sub-copy-u8
+sub-copy-u8 c =
+    let a = c .before .before .before .before .args in
+    omega (arith, leb-true (a .at + length (a .bytes .now)) (length (a .out .now)) (sym (c .before .has-room .ensures) ∙ not-false _ (c .if1 .left)))
 
-shared-slice-read-out : tie.Need-shared-slice-read-out Inv-loop μ-loop
-shared-slice-read-out c = omega arith
+part-copy-u8-start : tie.Need-part-copy-u8-start
+part-copy-u8-start c =
+    let a = c .before .before .before .before .args in
+    omega (arith, leb-true (a .at + length (a .bytes .now)) (length (a .out .now)) (sym (c .before .has-room .ensures) ∙ not-false _ (c .if1 .left)))
 
-add-out : tie.Need-add-out Inv-loop μ-loop
-add-out c = omega (arith, laying-inside _ _ _ _ _ (c .before .before .loop .inv) (omega arith), laying-long _ _ _ _ _ (c .before .before .loop .inv))
+part-copy-u8-end : tie.Need-part-copy-u8-end
+part-copy-u8-end c = search needs
 
-slice-write-out : tie.Need-slice-write-out Inv-loop μ-loop
-slice-write-out c = laying-inside _ _ _ _ _ (c .before .before .loop .inv) (omega arith)
+copy-u8-requires : tie.Need-copy-u8-requires
+copy-u8-requires c κs =
+    let a = c .before .before .before .before .before .args in
+    let room = leb-true (a .at + length (a .bytes .now)) (length (a .out .now)) (sym (c .before .before .has-room .ensures) ∙ not-false _ (c .before .if1 .left)) in
+    (omega (arith, length-drop (a .at) (a .out .now), length-take-le (length (a .out .now) - a .at) (drop (a .at) (a .out .now)) (omega (arith, length-drop (a .at) (a .out .now)))), omega arith)
 
-add-k : tie.Need-add-k Inv-loop μ-loop
-add-k c = omega arith
+add-t6 : tie.Need-add-t6
+add-t6 c =
+    let a = c .before .before .before .before .before .before .before .before .args in
+    let room = leb-true (a .at + length (a .bytes .now)) (length (a .out .now)) (sym (c .before .before .before .before .before .has-room .ensures) ∙ not-false _ (c .before .before .before .before .if1 .left)) in
+    omega arith
 
-loop-less : tie.Need-loop-less Inv-loop μ-loop
-loop-less c = omega arith
+same-length : tie.Need-same-length
+same-length c = search needs
 
-loop-again : tie.Need-loop-again Inv-loop μ-loop
-loop-again c = laying-more _ _ _ _ _ (c .before .before .loop .inv) (omega arith) _ refl
-
-add-t6 : tie.Need-add-t6 Inv-loop μ-loop
-add-t6 c = omega arith
-
-same-length : tie.Need-same-length Inv-loop μ-loop
-same-length c = laying-long _ _ _ _ _ (c .before .loop .inv)
-
-returns-2 : tie.Need-returns-2 Inv-loop μ-loop
-returns-2 c = fitted (word (c .before .before .before .before .before .before .args .bytes .now)) tt (c .before .before .before .before .before .before .args .out .now) (c .before .before .before .before .before .before .args .at) _ tt refl (sym (c .before .before .before .has-room .ensures) ∙ not-false _ (c .before .before .if1 .left)) _ _ (laying-done _ _ _ _ _ (c .before .loop .inv) (omega arith))
+returns-2 : tie.Need-returns-2
+returns-2 c =
+    let a = c .before .before .before .before .before .before .before .before .args in
+    let s = a .out .now in
+    let w = a .bytes .now in
+    let k = length s - a .at in
+    let told = sym (c .before .before .before .before .before .has-room .ensures) ∙ not-false _ (c .before .before .before .before .if1 .left) in
+    let room = leb-true (a .at + length w) (length s) told in
+    let rest = drop (length w) (take k (drop (a .at) s)) in
+    let back : c .before .before .copy-u8 .last .0 ≡ take (length w) w ++ rest = c .before .before .copy-u8 .ensures in
+    fitted (word w) tt s (a .at) _ tt refl told _ _ (put-over w s _ (a .at) _ room
+    (ap (λ (ys : List _). take (a .at) s ++ (ys ++ drop k (drop (a .at) s))) (back ∙ ap (λ (q : List _). q ++ rest) (take-length w))
+    ∙ over-lent s (a .at) k (length w) w refl (omega arith) (omega arith)) refl)
 
 pub put-word-spec : {M : Type 1} → statement M
 put-word-spec =
     tie.close
     (tie.spec
-    Inv-loop
-    μ-loop
     has-room-requires
     returns
-    loop-holds
-    shared-slice-read-out
-    add-out
-    slice-write-out
-    add-k
-    loop-less
-    loop-again
+    sub-copy-u8
+    part-copy-u8-start
+    part-copy-u8-end
+    copy-u8-requires
     add-t6
     same-length
     returns-2)

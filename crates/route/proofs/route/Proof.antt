@@ -5,7 +5,7 @@ use native.Mathlib.Omega.{arith}
 use borrow.Author.Needs.{needs}
 use borrow.Author.Tests.{not-true, not-false}
 use lib.Dec.{eqb}
-use Rattle.route.proofs.Routing.{wipe-fits, wipe-named, restored, blocked-start, blocked-end, routed-none, routed-some, leads-more}
+use Rattle.route.proofs.Routing.{wipe-fits, restored, blocked-start, blocked-end, routed-none, routed-some, leads-more}
 use Rattle.route.proofs.route.Statement.{statement}
 use Rattle.route.proofs.route.Tie as tie
 
@@ -24,8 +24,11 @@ returns-2 c = (blocked-end _ _ _ _ _ _ (c .if2 .taken), record { queueSame = ref
 search-requires : tie.Need-search-requires
 search-requires c κs = (c .before .before .before .before .before .before .before .before .before .before .pre .0, c .before .before .before .before .before .before .before .before .before .before .pre .1 .working)
 
+mul-wipe : tie.Need-mul-wipe
+mul-wipe c = omega (arith, c .before .before .before .before .before .before .before .before .before .before .before .before .before .before .before .before .before .before .before .pre .0 .small)
+
 wipe-requires : tie.Need-wipe-requires
-wipe-requires c κs = (wipe-fits _ _ _ _ (c .before .before .before .before .before .before .before .before .before .before .before .before .before .before .before .before .before .before .before .pre .1 .working) _ _ _ (c .before .before .before .before .before .before .before .before .search .ensures .0) (c .before .before .before .before .before .before .before .before .search .kept .1 .1 .1 .1 .1 .1 .0) (c .before .before .before .before .before .before .before .before .search .kept .1 .1 .1 .1 .1 .1 .1 .0), wipe-named _ _ _ _ (c .before .before .before .before .before .before .before .before .before .before .before .before .before .before .before .before .before .before .before .pre .1 .working) _ _ _ (c .before .before .before .before .before .before .before .before .search .ensures .0) (c .before .before .before .before .before .before .before .before .search .kept .1 .1 .1 .1 .1 .1 .0) (c .before .before .before .before .before .before .before .before .search .kept .1 .1 .1 .1 .1 .1 .1 .0))
+wipe-requires c κs = wipe-fits _ _ _ _ (c .before .before .before .before .before .before .before .before .before .before .before .before .before .before .before .before .before .before .before .pre .1 .working) _ _ _ (c .before .before .before .before .before .before .before .before .search .ensures .0) (c .before .before .before .before .before .before .before .before .search .kept .1 .1 .1 .1 .1 .1 .0) (c .before .before .before .before .before .before .before .before .search .kept .1 .1 .1 .1 .1 .1 .1 .0)
 
 same-length : tie.Need-same-length
 same-length c = search needs
@@ -49,8 +52,11 @@ lay-requires c κs = (
   (c .before .before .count .ensures, omega (arith, c .before .before .before .before .before .before .before .before .before .before .before .before .before .before .before .before .before .before .before .before .before .pre .0 .small, c .before .before .before .before .before .before .before .before .before .before .before .before .before .before .before .before .before .before .before .before .before .pre .1 .endBelow)),
 )
 
+mul-wipe-2 : tie.Need-mul-wipe-2
+mul-wipe-2 c = omega (arith, c .before .before .before .before .before .before .before .before .before .before .before .before .before .before .before .before .before .before .before .before .before .before .before .before .before .before .pre .0 .small)
+
 wipe-requires-2 : tie.Need-wipe-requires-2
-wipe-requires-2 c κs = (wipe-fits _ _ _ _ (c .before .before .before .before .before .before .before .before .before .before .before .before .before .before .before .before .before .before .before .before .before .before .before .before .before .before .pre .1 .working) _ _ _ (c .before .before .before .before .before .before .before .before .before .before .before .before .before .before .before .search .ensures .0) (c .before .before .before .before .before .before .before .before .before .before .before .before .before .before .before .search .kept .1 .1 .1 .1 .1 .1 .0) (c .before .before .before .before .before .before .before .before .before .before .before .before .before .before .before .search .kept .1 .1 .1 .1 .1 .1 .1 .0), wipe-named _ _ _ _ (c .before .before .before .before .before .before .before .before .before .before .before .before .before .before .before .before .before .before .before .before .before .before .before .before .before .before .pre .1 .working) _ _ _ (c .before .before .before .before .before .before .before .before .before .before .before .before .before .before .before .search .ensures .0) (c .before .before .before .before .before .before .before .before .before .before .before .before .before .before .before .search .kept .1 .1 .1 .1 .1 .1 .0) (c .before .before .before .before .before .before .before .before .before .before .before .before .before .before .before .search .kept .1 .1 .1 .1 .1 .1 .1 .0))
+wipe-requires-2 c κs = wipe-fits _ _ _ _ (c .before .before .before .before .before .before .before .before .before .before .before .before .before .before .before .before .before .before .before .before .before .before .before .before .before .before .pre .1 .working) _ _ _ (c .before .before .before .before .before .before .before .before .before .before .before .before .before .before .before .search .ensures .0) (c .before .before .before .before .before .before .before .before .before .before .before .before .before .before .before .search .kept .1 .1 .1 .1 .1 .1 .0) (c .before .before .before .before .before .before .before .before .before .before .before .before .before .before .before .search .kept .1 .1 .1 .1 .1 .1 .1 .0)
 
 same-length-3 : tie.Need-same-length-3
 same-length-3 c = search needs
@@ -76,12 +82,14 @@ route-spec =
     shared-slice-read-if2
     returns-2
     search-requires
+    mul-wipe
     wipe-requires
     same-length
     same-length-2
     returns-3
     count-requires
     lay-requires
+    mul-wipe-2
     wipe-requires-2
     same-length-3
     same-length-4

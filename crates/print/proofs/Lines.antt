@@ -1,99 +1,21 @@
--- The loops of the writers: what has been laid down so far and what is left are together the whole spelling; and the loops that decide
--- whether values are in range. Assumes nothing.
+-- Lines by their patterns: a number's spelling and range by the code's tests, whether values are those of a line, whether it has room,
+-- and laying it down. In each loop what was passed and what is left of the pattern come together to the whole. Assumes nothing.
 use mathlib.Core.Path.{_≡_, refl, sym, ap, _∙_, subst}
 use mathlib.Core.Bool.{Bool, true, false}
-use mathlib.Core.List.{List, [], _∷_, _++_, append-assoc, append-nil, map}
+use mathlib.Core.List.{List, [], _∷_, _++_, append-assoc, append-nil}
 use Prim.Native.Nat.{ℕ, zero, suc, _+_, _-_, _≤_, _<_}
 use native.Mathlib.Omega.{arith}
-use native.Mathlib.Numerals.{add-one}
 use lib.Dec.{leb, eqb}
 use borrow.Author.Tests.{eq-eqb, ne-eqb, eqb-true, eqb-false, le-leb, lt-leb, leb-true, leb-false}
-use lib.ListN.{length, set, take, drop, getD, length-append, length-drop, length-map, drop-of-length-le}
-use lib.Seq.{take-suc, take-length}
-use Rattle.text.specs.Forms.{Form, decimal, signed, number, digits, All}
+use lib.ListN.{length, set, drop, getD, length-append, length-drop, drop-of-length-le}
+use Rattle.text.specs.Forms.{Form, decimal, signed}
 use Rattle.text.specs.Patterns.{Piece, byte, plain, minus, piece, pieceBy, limitOf, isNumber, formOf, join, line, fields, fieldsBy, FitsMore}
 use Rattle.text.proofs.Pieces.{clash, line-count}
 use Rattle.text.proofs.Walk.{itself, next-piece, field-count}
-use Rattle.text.proofs.DigitRuns.{all-of}
 use Rattle.print.specs.Writing.{Put, Writes}
 use Rattle.print.specs.Inner.{Decides}
 use Rattle.print.specs.declared.Written.the-variants as written
 use Rattle.print.proofs.Puts.{put-then, put-byte, put-length}
-
--- ---- byte by byte
--- the first k bytes of w have been laid down
-pub record Laying (w before : List ℕ) (at : ℕ) (out : List ℕ) (k : ℕ) : Type 0 where
-  pub few : k ≤ length w
-  pub room : at + length w ≤ length before
-  pub put : Put (take k w) before at out (at + k)
-
-pub laying-start : (w before : List ℕ) (at : ℕ) → at + length w ≤ length before → Laying w before at before 0
-laying-start w before at r = record { few = omega arith; room = r; put = record { text = refl; ends = refl } }
-
-module _ (w before : List ℕ) (at : ℕ) (out : List ℕ) (k : ℕ) (h : Laying w before at out k) where
-  pub laying-long : length out ≡ length before
-  laying-long = put-length (take k w) before out at (at + k) (h .put)
-
-  module _ (more : k < length w) where
-    pub laying-inside : at + k < length out
-    laying-inside = let r : at + length w ≤ length before = h .room in omega (arith, laying-long)
-
-    pub laying-more : (v : ℕ) → v ≡ getD w k 0 → Laying w before at (set out (at + k) v) (k + 1)
-    laying-more v e = record {
-      few = omega arith;
-      room = h .room;
-      put = subst (λ (n : ℕ). Put (take (k + 1) w) before at (set out (at + k) v) n) (omega arith)
-          (subst (λ (l : List ℕ). Put l before at (set out (at + k) v) (at + k + 1)) (sym (ap (λ (n : ℕ). take n w) (add-one k) ∙ take-suc w k 0 more ∙ ap (λ (c : ℕ). take k w ++ (c ∷ [])) (sym e)))
-          (put-then (take k w) (v ∷ []) before out (set out (at + k) v) at (at + k) (at + k + 1) (h .put) (put-byte v out (at + k))));
-    }
-
-  pub laying-done : length w ≤ k → Put w before at out (at + k)
-  laying-done le =
-      let f : k ≤ length w = h .few in let e : k ≡ length w = omega arith in
-      subst (λ (l : List ℕ). Put l before at out (at + k)) (ap (λ (n : ℕ). take n w) e ∙ take-length w) (h .put)
-
--- ---- digits
-pub spelled-at : (ds : List ℕ) (k : ℕ) → k < length ds → 48 + getD ds k 0 ≡ getD (map (λ d. 48 + d) ds) k 0
-spelled-at [] k h = absurd (omega arith)
-spelled-at (d ∷ ds) zero h = refl
-spelled-at (d ∷ ds) (suc k) h = spelled-at ds k (omega arith)
-
-pub spelled-long : (ds : List ℕ) → length (map (λ d. 48 + d) ds) ≡ length ds
-spelled-long ds = length-map ds (λ d. 48 + d)
-
-all-at : (P : ℕ → Type 0) (l : List ℕ) → All P l → (i : ℕ) → i < length l → P (getD l i 0)
-all-at P [] h i k = absurd (omega arith)
-all-at P (a ∷ l) h zero k = h .0
-all-at P (a ∷ l) h (suc i) k = all-at P l (h .1) i (omega arith)
-
-pub digit-at : (ds : List ℕ) → digits .fits ds → (i : ℕ) → i < length ds → getD ds i 0 ≤ 9
-digit-at ds u i h = all-at (λ d. d ≤ 9) ds (u .1) i h
-
-pub record Low (ds : List ℕ) (k : ℕ) : Type 0 where
-  pub few : k ≤ length ds
-  pub low : (i : ℕ) → i < k → getD ds i 0 ≤ 9
-
-pub low-start : (ds : List ℕ) → Low ds 0
-low-start ds = record { few = omega arith; low = λ i h. absurd (omega arith) }
-
-pub low-more : (ds : List ℕ) (k : ℕ) → Low ds k → k < length ds → getD ds k 0 ≤ 9 → Low ds (k + 1)
-low-more ds k w h le = record { few = omega arith; low = λ i b. go i b (k - i) refl }
-  where
-    go : (i : ℕ) → i < k + 1 → (d : ℕ) → k - i ≡ d → getD ds i 0 ≤ 9
-    go i b zero e = let z : k ≡ i = omega arith in subst (λ (j : ℕ). getD ds j 0 ≤ 9) z le
-    go i b (suc d) e = w .low i (omega arith)
-
-pub low-not : (ds : List ℕ) (k : ℕ) → k < length ds → 9 < getD ds k 0 → Decides (digits .fits ds) false
-low-not ds k h lt = record { yes = λ e. clash e; no = λ e u. (let z : getD ds k 0 ≤ 9 = digit-at ds u k h in omega arith) }
-
-pub low-done : (ds : List ℕ) (k : ℕ) (t : Bool) → Low ds k → length ds ≤ k → ((0 < k → t ≡ true) × (t ≡ true → 0 < k)) → Decides (digits .fits ds) t
-low-done ds k t w h tells =
-    let f : k ≤ length ds = w .few in
-    let e : k ≡ length ds = omega arith in
-    record {
-      yes = λ b. (let p : 0 < k = tells .1 b in (omega arith, all-of (λ d. d ≤ 9) ds (λ i q. w .low i (omega arith))));
-      no = λ b u. clash (sym b ∙ tells .0 (let p : 0 < length ds = u .0 in omega arith));
-    }
 
 -- ---- a number of a pattern
 plain-spell : (m c x : ℕ) → formOf (pieceBy false m c) .spell x ≡ decimal x
@@ -129,9 +51,6 @@ field-fits : (q : Piece) (g : Form (List ℕ)) (l : List ℕ) → isNumber q ≡
 field-fits (byte c) g l e = clash e
 field-fits (plain m) g l e = (λ h. h, λ h. h)
 field-fits minus g l e = (λ h. h, λ h. h)
-
-next-value : (vs : List ℕ) (k : ℕ) → k < length vs → drop k vs ≡ getD vs k 0 ∷ drop (k + 1) vs
-next-value vs k h = next-piece vs k h
 
 -- ---- whether values are those of a line: those left are the rest's exactly when all are the whole's
 pub record Matching (p vs : List ℕ) (j k : ℕ) : Type 0 where
@@ -174,7 +93,7 @@ module _ (p vs : List ℕ) (j k : ℕ) (w : Matching p vs j k) (more : j < lengt
 
     module _ (less : k < length vs) where
       value-back : line p .fits vs → formOf (piece c) .fits (getD vs k 0) × line rest .fits (drop (k + 1) vs)
-      value-back h = field-fits (piece c) (line rest) (getD vs k 0 ∷ drop (k + 1) vs) f .0 (subst (λ (l : List ℕ). line (c ∷ rest) .fits l) (next-value vs k less) (back-here h))
+      value-back h = field-fits (piece c) (line rest) (getD vs k 0 ∷ drop (k + 1) vs) f .0 (subst (λ (l : List ℕ). line (c ∷ rest) .fits l) (next-piece vs k less) (back-here h))
 
       pub matching-out : (t : Bool) → Decides (formOf (piece c) .fits (getD vs k 0)) t → t ≡ false → Decides (line p .fits vs) false
       matching-out t d e = record { yes = λ b. clash b; no = λ b h. d .no e (value-back h .0) }
@@ -183,7 +102,7 @@ module _ (p vs : List ℕ) (j k : ℕ) (w : Matching p vs j k) (more : j < lengt
       matching-value t d e = record {
         short = omega arith;
         few = omega arith;
-        to = λ h. to-here (subst (λ (l : List ℕ). line (c ∷ rest) .fits l) (sym (next-value vs k less))
+        to = λ h. to-here (subst (λ (l : List ℕ). line (c ∷ rest) .fits l) (sym (next-piece vs k less))
             (field-fits (piece c) (line rest) (getD vs k 0 ∷ drop (k + 1) vs) f .1 (d .yes e, h)));
         back = λ h. value-back h .1;
       }
@@ -237,7 +156,7 @@ module _ (p vs written : List ℕ) (j k : ℕ) (w : Spelling p vs written j k) (
     spelling-value = omega (arith, counted)
 
     field-whole : line p .spell vs ≡ written ++ (spelt ++ line tail .spell (drop (k + 1) vs))
-    field-whole = whole-here ∙ ap (λ (l : List ℕ). written ++ line (d ∷ tail) .spell l) (next-value vs k spelling-value)
+    field-whole = whole-here ∙ ap (λ (l : List ℕ). written ++ line (d ∷ tail) .spell l) (next-piece vs k spelling-value)
         ∙ ap (λ (l : List ℕ). written ++ l) (field-spell (piece d) (line tail) (getD vs k 0) (drop (k + 1) vs) f)
 
     pub spelling-within : length written + length spelt ≤ length (line p .spell vs)
