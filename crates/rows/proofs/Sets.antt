@@ -28,11 +28,22 @@ same-ne a b n = either (same a b) (λ t. absurd (n (same-true a b t))) (λ e. e)
 pub row-differs : (held l : List ℕ) (at i : ℕ) → i < 7 → (getD held i 0 ≡ getD l (at + i) 0 → ⊥) → same held (take 7 (drop at l)) ≡ false
 row-differs held l at i h n = same-ne held (take 7 (drop at l)) (λ e. n (ap (λ (q : List ℕ). getD q i 0) e ∙ getD-take 7 (drop at l) i 0 h ∙ getD-drop at l i 0))
 
-pub row-equals : (held l : List ℕ) (at i : ℕ) → length held ≡ 7 → at + 7 ≤ length l → 7 ≤ i → ((k : ℕ) → k < i → getD held k 0 ≡ getD l (at + k) 0) → same held (take 7 (drop at l)) ≡ true
+-- from entry i on they are equal
+abbrev pub EqualFrom : (held l : List ℕ) (at i : ℕ) → Type 0
+EqualFrom held l at i = (k : ℕ) → i ≤ k → k < 7 → getD held k 0 ≡ getD l (at + k) 0
+
+pub equal-more : (held l : List ℕ) (at i j : ℕ) → i ≡ j + 1 → EqualFrom held l at i → getD held j 0 ≡ getD l (at + j) 0 → EqualFrom held l at j
+equal-more held l at i j e f g k h w = go (k - j) refl
+  where
+    go : (d : ℕ) → k - j ≡ d → getD held k 0 ≡ getD l (at + k) 0
+    go zero q = let z : j ≡ k = omega arith in subst (λ (x : ℕ). getD held x 0 ≡ getD l (at + x) 0) z g
+    go (suc d) q = f k (omega arith) w
+
+pub row-equals : (held l : List ℕ) (at i : ℕ) → length held ≡ 7 → at + 7 ≤ length l → i ≤ 0 → EqualFrom held l at i → same held (take 7 (drop at l)) ≡ true
 row-equals held l at i e h j f =
     same-eq held (take 7 (drop at l))
     (ext-getD 0 held (take 7 (drop at l)) (e ∙ sym (length-take-le 7 (drop at l) (rw (length-drop at l) (omega arith))))
-    (λ k w. f k (omega arith) ∙ sym (getD-take 7 (drop at l) k 0 (omega arith) ∙ getD-drop at l k 0)))
+    (λ k w. f k (omega arith) (omega arith) ∙ sym (getD-take 7 (drop at l) k 0 (omega arith) ∙ getD-drop at l k 0)))
 
 pub length-row : (s : List ℕ) → length s ≤ 6 → length (row s) ≡ 7
 unfolding row padded

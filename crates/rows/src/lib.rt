@@ -28,17 +28,17 @@ fn small(n: u16) -> usize
     n as usize
 }
 
-// Whether the seven entries from `at` on are the row.
+// Whether the seven entries from `at` on are the row. Sets that a search visits one after the other differ in their last members, so these are looked at first.
 fn same_row(area: &[u16], at: usize, set: [u16; 7]) -> bool
     requires { ⌜ at + 7 ≤ length (now area) ⌝ }
     ensures { λ r. ⌜ r ≡ same set (take 7 (drop at (now (area .entry)))) ⌝ }
 {
-    let mut i = 0;
-    while i < 7 {
+    let mut i: usize = 7;
+    while 0 < i {
+        i = i - 1;
         if set[i] != area[at + i] {
             return false;
         }
-        i = i + 1;
     }
     true
 }
