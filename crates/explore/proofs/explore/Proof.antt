@@ -1,10 +1,10 @@
 -- `explore::explore` meets its contract: the board of the paper is that of the rows, and the map is cleared.
 use mathlib.Core.Path.{_≡_, sym, ap, _∙_, subst}
-use mathlib.Core.List.{List, _++_, append-nil}
+use mathlib.Core.List.{List, _++_}
 use Prim.Native.Nat.{ℕ}
 use native.Mathlib.Omega.{arith}
 use lib.ListN.{length, replicate, drop, length-replicate}
-use lib.Seq.{drop-length}
+use Rattle.laws.proofs.Stores.{whole-cleared}
 use Rattle.rects.specs.Windows.{centres}
 use Rattle.rects.proofs.Windows.{framed}
 use Rattle.routes.specs.Edges.{stepsOf}
@@ -18,8 +18,7 @@ use Rattle.explore.proofs.explore.Tie as tie
 -- a map wiped to its end
 wiped-map : (c : ℕ) (map map₁ : List ℕ) → map ≡ replicate c 0 → length map₁ ≡ length map → replicate (length map₁) 0 ++ drop (length map₁) map₁ ≡ map
 wiped-map c map map₁ e s =
-    ap (λ (x : List ℕ). replicate (length map₁) 0 ++ x) (drop-length map₁) ∙ append-nil (replicate (length map₁) 0)
-    ∙ ap (λ (n : ℕ). replicate n 0) (s ∙ ap (λ (x : List ℕ). length x) e ∙ length-replicate {A = ℕ} c 0) ∙ sym e
+    whole-cleared 0 map₁ ∙ ap (λ (n : ℕ). replicate n 0) (s ∙ ap (λ (x : List ℕ). length x) e ∙ length-replicate {A = ℕ} c 0) ∙ sym e
 
 centre-at-requires : tie.Need-centre-at-requires
 centre-at-requires c κs = (c .before .before .before .before .before .before .before .before .before .before .before .before .before .pre .0 .fits, c .before .before .before .before .before .before .before .before .before .before .before .before .before .pre .0 .startIn)
