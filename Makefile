@@ -1,4 +1,4 @@
-# make test      the gate: proves every crate from nothing, tries the must-fail edits, runs the programs
+# make test      the gate: proves every crate from nothing, tries the must-fail edits, runs the programs, hands them inputs that do not arrive whole
 # make run       answers a drive sheet: make run SHEET=file
 # make worked    writes what the program `worked` is run on, and what it must print, from sheets/
 # make bindings  proves the C functions and makes their archive, builds and runs the C examples, builds and tests the Rust crate
@@ -12,8 +12,10 @@ KIT = rattle-kit-5b logic 064da1ca440f63e7
 
 .PHONY: test kit run worked current bindings compare bench answers stored routes
 
+# what is run after the gate says nothing where it holds: the gate's count stays the last line
 test: kit current
 	@rt ci
+	@tests/failed_read target/bin/drive target/bin/worked target/bin/replay
 
 kit:
 	@found=$$(rt version); test "$$found" = "$(KIT)" || echo "note: proved with '$(KIT)'; the kit at hand is '$$found'"

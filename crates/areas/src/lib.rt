@@ -82,18 +82,6 @@ pub fn fill_bytes(s: &mut [u8], b: u8)
 }
 
 // The first n entries become those of `from`.
-pub fn copy_u8(s: &mut [u8], from: &[u8], n: usize)
-    requires { ⌜ (n ≤ length (now s)) × (n ≤ length (now from)) ⌝ }
-    ensures { λ r. ⌜ now (s .exit) ≡ take n (now (from .entry)) ++ drop n (now (s .entry)) ⌝ }
-{
-    let mut i = 0;
-    while i < n {
-        s[i] = from[i];
-        i += 1;
-    }
-}
-
-// The first n entries become those of `from`.
 pub fn copy_u32(s: &mut [u32], from: &[u32], n: usize)
     requires { ⌜ (n ≤ length (now s)) × (n ≤ length (now from)) ⌝ }
     ensures { λ r. ⌜ now (s .exit) ≡ take n (now (from .entry)) ++ drop n (now (s .entry)) ⌝ }

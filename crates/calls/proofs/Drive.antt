@@ -1,10 +1,11 @@
 -- Words for tables of cases that the checker computes through the calls: a search's inputs, its drive (prepare block, prepare allow, begin, then steps), and what
 -- is then shown. Every area lent is one entry longer than its length and holds nines.
 use Prim.Native.Nat.{ℕ, suc, _*_}
+use mathlib.Core.Bool.{true}
 use mathlib.Core.Option.{Option, none, some}
 use mathlib.Core.List.{List, [], _∷_, map}
 use lib.IntN.{ℤ, pos}
-use lib.ListN.{length, replicate}
+use lib.ListN.{length, getD, replicate}
 use Rattle.laws.specs.Lists.{below}
 use Rattle.model.specs.Answers.{Said, first}
 use Rattle.model.specs.declared.Rect.{Rect}
@@ -21,7 +22,8 @@ use Rattle.routes.specs.Edges.{eightSteps}
 use Rattle.search.specs.State.{Reason}
 use Rattle.layouts.specs.Inputs.{Inputs}
 use Rattle.calls.specs.Areas.{Work, Store, countsLength, pointsLength, rowOf, reasonOf}
-use Rattle.calls.specs.Calls.{Prepared, prepareCall, After, beginCall, stepCall, readCall, Judgement, judgeCall}
+use Rattle.calls.specs.Checks.{queryChecks}
+use Rattle.calls.specs.Calls.{Prepared, prepareChecks, prepareCall, After, beginCall, stepCall, ReadOut, readCall, Judgement, judgeCall}
 
 -- a case and what it must come to
 pub record Row (A : Type 0) : Type 0 where
@@ -124,12 +126,14 @@ stepped i l [] a = a
 stepped i l (n ∷ ns) a = stepped i l ns (stepCall eightSteps i l (a .rec) n (a .work) (a .store))
 
 -- ---- what is shown
+-- a layout's row, and all that reading it gives: an answer and points
 pub record ShownLayout : Type 0 where
   pub members : List ℕ
-  pub points : List ℕ
+  pub reading : ReadOut
 
+-- with an accepted reading
 unfoldable pub layout : List ℕ → List ℕ → ShownLayout
-layout m ps = record { members = m; points = ps }
+layout m ps = record { members = m; reading = record { answer = none; points = ps } }
 
 pub data Shown : Type 0 where
   refused : Said → Shown
@@ -144,7 +148,7 @@ unfoldable pub shownBy : Inputs → Limits → Option Said → After → Shown
 shownBy i l (some r) a = refused r
 shownBy i l none a =
     result (reasonOf (a .rec .reason)) (a .rec .evaluations) (a .rec .placements)
-    (map (λ (k : ℕ). layout (rowOf (a .store .layouts) k) (readCall i l (a .rec) k (a .store) .points)) (below (a .rec .layouts)))
+    (map (λ (k : ℕ). record { members = rowOf (a .store .layouts) k; reading = readCall i l (a .rec) k (a .store) }) (below (a .rec .layouts)))
 
 -- the first refusal of prepare, prepare and begin, else what the steps come to
 unfoldable pub drive : Case → List ℕ → Shown
@@ -215,8 +219,17 @@ alone ps = given W (at 0 1) (at 4 1) still0 Nobody (2 ∷ []) ps open0 []
 unfoldable pub good : Placement
 good = plain (box 2 0 3 3)
 
+-- ---- check 2 alone: prepare's, on a map of so many cells each way, and begin's
+unfoldable pub prepareWindow : (across down : ℕ) → Rect → Option Said
+prepareWindow across down w = getD (prepareChecks
+    (record { map = record { across = across; down = down; cells = [] }; obstacles = []; window = w; start = at 0 0; end = at 0 0; mover = still0 })
+    [] (workFor W)) 1 none
+
+unfoldable pub beginWindow : Rect → Option Said
+beginWindow w = getD (queryChecks (given w (at 0 0) (at 0 0) still0 Nobody [] [] [] []) true) 0 none
+
 -- ---- a name under which all of this unfolds
 unfoldable pub driving : ℕ
 unfolding _gives_ gots wants at box bounds place plain limits nines workFor storeFor prepared allowBaseOf allowAnswerOf inputsOf begins stepped layout refusedWith
-    shownBy drive judging answered still0 onOpenCell placesP P P0 W refusedBy given open0 alone good
+    shownBy drive judging answered still0 onOpenCell placesP P P0 W refusedBy given open0 alone good prepareWindow beginWindow
 driving = 0

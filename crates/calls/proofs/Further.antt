@@ -6,8 +6,9 @@ use mathlib.Core.Option.{none}
 use mathlib.Core.List.{List, [], _∷_, _++_}
 use lib.IntN.{pos, negsuc}
 use lib.ListN.{replicate}
+use Rattle.model.specs.declared.Allow.{Allow}
 use Rattle.model.specs.declared.Allow.the-variants.{Nobody, Bounded}
-use Rattle.model.specs.declared.Verdict.the-variants.{Slots, EndCovered, Spare, Shut}
+use Rattle.model.specs.declared.Verdict.the-variants.{Slots, Overlap, EndCovered, Spare, Shut}
 use Rattle.search.specs.State.{Running, Exhausted, StateLimit, ResultLimit}
 use Rattle.calls.specs.Calls.{After, judges}
 use Rattle.calls.proofs.Computing.{computing}
@@ -42,8 +43,12 @@ use Rattle.calls.proofs.Drive.{
 }
 
 -- a half wall, then a whole one: with the half wall lifted there is still no route
-pub halfAndWhole : List ℕ → Case
-halfAndWhole groups = P Nobody 100 32 groups (plain (box 1 0 2 2) ∷ plain (box 3 0 4 3) ∷ [])
+pub halfAndWhole : Allow → List ℕ → Case
+halfAndWhole allow groups = P allow 100 32 groups (plain (box 1 0 2 2) ∷ plain (box 3 0 4 3) ∷ [])
+
+-- the start stands under the first place, which the second overlaps
+pub startUnder : Case
+startUnder = onOpenCell (box 0 0 5 3) (at 3 1) (at 4 1) still0 Nobody (limits 9 9) (2 ∷ []) (plain (box 3 0 4 3) ∷ plain (box 2 0 4 3) ∷ [])
 
 -- the blocked mover reaches one row up, the allowed one does not: place 1 alone is a wall, and the route past it is kept
 pub keptRoute : Case
@@ -81,11 +86,15 @@ ramp = record {
 
 pub table : List (Row Shown)
 table =
-    (drive (halfAndWhole (2 ∷ [])) (100 ∷ []) gives result Exhausted 4 2 (layout (1 ∷ []) [] ∷ []))
-    ∷ (judging (halfAndWhole (2 ∷ [])) (0 ∷ 1 ∷ []) gives judged (judges Spare 10))
-    ∷ (judging (halfAndWhole (1 ∷ [])) (0 ∷ 1 ∷ []) gives judged (judges Slots 10))
-    ∷ (judging (onOpenCell (box 0 0 5 3) (at 3 1) (at 4 1) still0 Nobody (limits 9 9) (2 ∷ []) (plain (box 3 0 4 3) ∷ [])) (0 ∷ []) gives judged (judges EndCovered 12))
+    (drive (halfAndWhole Nobody (2 ∷ [])) (100 ∷ []) gives result Exhausted 4 2 (layout (1 ∷ []) [] ∷ []))
+    ∷ (judging (halfAndWhole Nobody (2 ∷ [])) (0 ∷ 1 ∷ []) gives judged (judges Spare 10))
+    ∷ (judging (halfAndWhole Nobody (1 ∷ [])) (0 ∷ 1 ∷ []) gives judged (judges Slots 10))
+    ∷ (judging startUnder (0 ∷ []) gives judged (judges EndCovered 12))
     ∷ (judging (P (Bounded still0) 9 9 (2 ∷ []) placesP) (0 ∷ []) gives judged (judges Shut 12))
+    -- two verdicts hold: Slots before Overlap, Overlap before EndCovered, Spare before Shut
+    ∷ (judging (P Nobody 9 9 (1 ∷ []) placesP) (0 ∷ 1 ∷ []) gives judged (judges Slots 12))
+    ∷ (judging startUnder (0 ∷ 1 ∷ []) gives judged (judges Overlap 9))
+    ∷ (judging (halfAndWhole (Bounded still0) (2 ∷ [])) (0 ∷ 1 ∷ []) gives judged (judges Spare 10))
     ∷ (drive (P Nobody 1 32 [] []) (1 ∷ []) gives result Exhausted 1 0 [])
     ∷ (drive (P Nobody 1 32 (2 ∷ []) placesP) (1 ∷ []) gives result StateLimit 1 3 [])
     ∷ (drive (P Nobody 2 1 (2 ∷ []) placesP) (2 ∷ []) gives result ResultLimit 2 3 (layout (0 ∷ []) [] ∷ []))
@@ -97,7 +106,7 @@ table =
     ∷ []
 
 pub further : gots table ≡ wants table
-unfolding computing driving halfAndWhole keptRoute keptRouteOffset ramp table
+unfolding computing driving halfAndWhole startUnder keptRoute keptRouteOffset ramp table
 further = refl
 
 -- all that P leaves with limits 5 and 2 after step 2: record and areas, unused entries zero, the entry past each length kept

@@ -4,6 +4,8 @@ pub mod Marked
 pub mod Further
 pub mod Refusals
 pub mod Records
+pub mod BothSides
+pub mod Orders
 pub mod Blocks
 pub mod Back
 pub mod Clearing
@@ -13,4 +15,5 @@ pub mod Checked
 pub mod Accepted
 pub mod Again
 pub mod StepLaws
+pub mod Shapes
 pub mod Reading

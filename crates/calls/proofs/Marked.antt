@@ -24,6 +24,7 @@ use Rattle.calls.proofs.Drive.{
   layout,
   Shown,
   judged,
+  passed,
   result,
   refusedWith,
   answered,
@@ -36,6 +37,8 @@ use Rattle.calls.proofs.Drive.{
   P,
   P0,
   given,
+  prepareWindow,
+  beginWindow,
   driving,
 }
 
@@ -79,6 +82,12 @@ table =
     ∷ (judging P0 (0 ∷ 1 ∷ []) gives judged (judges Overlap 12))
     ∷ (drive Q (4 ∷ []) gives result Running 4 2 (layout (0 ∷ 1 ∷ []) [] ∷ []))
     ∷ (drive Q (4 ∷ 1 ∷ []) gives result Exhausted 4 2 (layout (0 ∷ 1 ∷ []) [] ∷ []))
+    -- check 2 alone: 1,024 × 1,024 passes, 1,024 × 1,025 does not
+    ∷ (answered (prepareWindow 128 129 (box 0 0 1024 1024)) gives passed)
+    ∷ (answered (prepareWindow 128 129 (box 0 0 1024 1025)) gives refusedWith 2)
+    ∷ (answered (beginWindow (box 0 0 1024 1024)) gives passed)
+    ∷ (answered (beginWindow (box 0 0 1024 1025)) gives refusedWith 2)
+    -- through the calls, with areas that are too short: the first window gets past 2, as far as 6; the second is refused by 2
     ∷ (preparing (box 0 0 1024 1024) gives refusedWith 6)
     ∷ (preparing (box 0 0 1024 1025) gives refusedWith 2)
     ∷ (beginning (box 0 0 1024 1024) gives refusedWith 6)

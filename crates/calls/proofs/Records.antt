@@ -1,4 +1,5 @@
--- Check 16 clause by clause, through step and reading: a record of the paper's P after a step by two, with one thing wrong.
+-- Check 16 clause by clause, through step and reading: a record of the paper's P after a step by two, with one thing wrong; what a refused step leaves, and what
+-- comes before 16 and after it; the numbers of the reasons.
 use Prim.Native.Nat.{ℕ}
 use mathlib.Core.Path.{_≡_, refl}
 use mathlib.Core.Bool.{Bool, true, false}
@@ -9,11 +10,12 @@ use Rattle.model.specs.declared.Record.{Record}
 use Rattle.model.specs.declared.Allow.the-variants.{Nobody, Bounded}
 use Rattle.routes.specs.Edges.{eightSteps}
 use Rattle.layouts.specs.Inputs.{Inputs}
-use Rattle.calls.specs.Areas.{Store}
+use Rattle.search.specs.State.{Reason, Running, Exhausted, StateLimit, ResultLimit}
+use Rattle.calls.specs.Areas.{Store, reasonOf, numberOf}
 use Rattle.calls.specs.RecordCheck.{routesFit}
-use Rattle.calls.specs.Calls.{stepCall, ReadOut, readCall}
+use Rattle.calls.specs.Calls.{After, stepCall, ReadOut, readCall}
 use Rattle.calls.proofs.Computing.{computing}
-use Rattle.calls.proofs.Drive.{Row, _gives_, gots, wants, at, box, limits, workFor, still0, placesP, W, refusedBy, given, open0, alone, driving}
+use Rattle.calls.proofs.Drive.{Row, _gives_, gots, wants, at, box, place, limits, workFor, storeFor, still0, placesP, W, refusedBy, given, open0, alone, good, driving}
 use Rattle.calls.proofs.Refusals.{said, number}
 
 pub rec : (reason evaluations placements layouts lists : ℕ) → Bool → (length next : ℕ) → Record
@@ -83,6 +85,35 @@ records =
 pub records-checked : gots records ≡ wants records
 unfolding computing driving rec kept right inputs steps records
 records-checked = refl
+
+-- ---- a refused step
+-- two placements, the second with no such spec index
+pub misplaced : Inputs
+misplaced = alone (good ∷ place 6 0 W W ∷ [])
+
+-- a step by three that is lent areas full of nines
+pub soiled : Inputs → Record → After
+soiled i r = stepCall eightSteps i (limits 2 2) r 3 (workFor W) (storeFor i (limits 2 2))
+
+-- record, working areas and store are as given: refused by 15 with a record as begin leaves it; by 16, since no row has nine members
+pub leaves-at-15 : soiled misplaced (rec 1 0 2 0 0 true 0 0)
+    ≡ record { answer = refusedBy 15 (1 ∷ []); rec = rec 1 0 2 0 0 true 0 0; work = workFor W; store = storeFor misplaced (limits 2 2) }
+unfolding computing driving rec misplaced soiled
+leaves-at-15 = refl
+
+pub leaves-at-16 : soiled inputs (rec 1 2 3 1 1 false 2 1)
+    ≡ record { answer = refusedBy 16 []; rec = rec 1 2 3 1 1 false 2 1; work = workFor W; store = storeFor inputs (limits 2 2) }
+unfolding computing driving rec inputs soiled
+leaves-at-16 = refl
+
+-- two things wrong: 15 and 14 come before 16
+pub fifteen-first : said (soiled misplaced (rec 0 0 2 0 0 true 0 0) .answer) ≡ (15, 1 ∷ [])
+unfolding computing driving rec misplaced soiled
+fifteen-first = refl
+
+pub fourteen-first : said (soiled (alone (replicate 6145 good)) (rec 0 0 6145 0 0 true 0 0) .answer) ≡ number 14
+unfolding computing driving rec soiled
+fourteen-first = refl
 
 -- two lists: the second list of (0) or (1) holds placements that may join the set below
 pub second : (length next : ℕ) → List ℕ → List ℕ → ℕ × List ℕ
@@ -159,6 +190,8 @@ reading =
     ∷ (readCall withAllowed (limits 5 2) (routed 2 16) 0 pointed gives record { answer = refusedBy 16 []; points = [] })
     ∷ (readCall inputs (limits 5 2) (routed 2 1) 0 pointed gives record { answer = refusedBy 16 []; points = [] })
     ∷ (readCall inputs (limits 5 2) (routed 0 0) 1 pointed gives record { answer = none; points = [] })
+    -- two things wrong: 16 comes before 17
+    ∷ (readCall withAllowed (limits 5 2) (routed 2 16) 2 pointed gives record { answer = refusedBy 16 []; points = [] })
     ∷ []
 
 pub reading-gives : gots reading ≡ wants reading
@@ -172,6 +205,24 @@ wide = given (box 0 0 1024 1024) (at 0 1) (at 4 1) still0 (Bounded still0) [] []
 pub sums : routesFit wide (1000000 ∷ []) ∷ routesFit wide (999999 ∷ 1 ∷ []) ∷ routesFit wide (1000000 ∷ 1 ∷ []) ∷ [] ≡ true ∷ true ∷ false ∷ []
 unfolding computing driving wide
 sums = refl
+
+-- ---- the reasons and their numbers; 0 and 5 name none, and 16 refuses them
+pub reasons : List (Row ℕ)
+reasons = (numberOf Running gives 1) ∷ (numberOf Exhausted gives 2) ∷ (numberOf StateLimit gives 3) ∷ (numberOf ResultLimit gives 4) ∷ []
+
+pub named : List (Row Reason)
+named =
+    (reasonOf 0 gives Running)
+    ∷ (reasonOf 1 gives Running)
+    ∷ (reasonOf 2 gives Exhausted)
+    ∷ (reasonOf 3 gives StateLimit)
+    ∷ (reasonOf 4 gives ResultLimit)
+    ∷ (reasonOf 5 gives ResultLimit)
+    ∷ []
+
+pub reasons-numbered : (gots reasons ≡ wants reasons) × (gots named ≡ wants named)
+unfolding computing driving reasons named
+reasons-numbered = (refl, refl)
 
 -- a running record at the state limit is stopped before a frame, and its used entries stay
 pub at-the-limit : stepCall eightSteps inputs (limits 2 2) (rec 1 2 3 1 1 false 2 1) 3 (workFor W) (kept (0 ∷ 1 ∷ []) (1 ∷ [])) .rec ≡ rec 3 2 3 1 1 false 2 1

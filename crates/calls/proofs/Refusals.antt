@@ -1,6 +1,7 @@
--- Each refusal through the calls, with one thing wrong or two, so that the order shows; and what a refusal leaves.
+-- Each refusal through the calls, with one thing wrong or two, so that the order shows; and all that refused and accepted calls leave of soiled areas.
 use Prim.Native.Nat.{ℕ}
 use mathlib.Core.Path.{_≡_, refl}
+use mathlib.Core.Bool.{true}
 use mathlib.Core.Option.{Option, none, some}
 use mathlib.Core.List.{List, [], _∷_, _++_}
 use lib.IntN.{ℤ, pos, negsuc}
@@ -13,11 +14,14 @@ use Rattle.model.specs.declared.Placement.{Placement}
 use Rattle.model.specs.declared.Allow.{Allow}
 use Rattle.model.specs.declared.Allow.the-variants.{Nobody, Bounded}
 use Rattle.model.specs.declared.Limits.{Limits}
+use Rattle.model.specs.declared.Refusal.the-variants.{PlacementInvalid}
+use Rattle.model.specs.declared.Verdict.the-variants.{Slots, Spare, Wall}
+use Rattle.model.specs.declared.Judged.the-variants.{Verdict as AVerdict, Refused as ARefusal}
 use Rattle.routes.specs.Edges.{eightSteps}
 use Rattle.layouts.specs.Inputs.{Inputs}
 use Rattle.layouts.specs.Flat.{placementsOf}
 use Rattle.calls.specs.Areas.{Work, Store}
-use Rattle.calls.specs.Calls.{Prepared, prepareCall, After, noRecord, beginCall, Judgement, judges, refuses, AfterJudge, judgeCall}
+use Rattle.calls.specs.Calls.{Prepared, prepareCall, After, noRecord, beginCall, Judgement, judges, refuses, judgementOf, AfterJudge, judgeCall}
 use Rattle.calls.proofs.Computing.{computing}
 use Rattle.calls.proofs.Drive.{Row, _gives_, gots, wants, at, box, bounds, place, plain, limits, workFor, storeFor, begins, still0, W, refusedBy, given, open0, alone, good, driving}
 
@@ -30,7 +34,7 @@ abbrev pub number : ℕ → ℕ × List ℕ
 number n = (n, [])
 
 -- the mover's left bound alone
-pub reach : ℕ → Bounds
+unfoldable pub reach : ℕ → Bounds
 reach n = bounds n 0 0 0
 
 -- ---- prepare, on a map one cell high, with a baseline of so many entries
@@ -53,6 +57,7 @@ preparing =
     ∷ (said (prepares 1 (1 ∷ []) [] (box 3 0 2 3) (at 9 9) (at 4 1) still0 15 .answer) gives number 2)
     ∷ (said (prepares 1 (1 ∷ []) [] (box 0 0 9 3) (at 9 9) (at 4 1) still0 15 .answer) gives number 2)
     ∷ (said (prepares 1 (1 ∷ []) [] W (at 5 1) (at 4 1) (reach 257) 15 .answer) gives number 3)
+    ∷ (said (prepares 1 (1 ∷ []) [] W (at 0 1) (at 5 1) (reach 257) 15 .answer) gives number 3)
     ∷ (said (prepared0 (pos 1 ∷ []) (reach 257) 15 .answer) gives number 4)
     ∷ (said (prepared0 (pos 1 ∷ pos 1 ∷ pos 2 ∷ []) still0 0 .answer) gives number 5)
     ∷ (said (prepared0 (pos 1 ∷ pos 1 ∷ pos 1 ∷ pos 2 ∷ []) still0 0 .answer) gives number 5)
@@ -68,7 +73,7 @@ unfolding computing driving reach prepares prepared0 preparing
 prepare-refuses = refl
 
 -- the working areas with zeros up to their lengths
-pub zeroed : Work
+unfoldable pub zeroed : Work
 zeroed = record {
   counts = replicate 24 (pos 0) ++ pos 9 ∷ [];
   map = replicate 15 0 ++ 9 ∷ [];
@@ -95,7 +100,7 @@ prepare-leaves = refl
 pub both : List ℕ → List ℕ → Inputs
 both base other = given W (at 0 1) (at 4 1) still0 (Bounded still0) (2 ∷ []) [] base other
 
-pub beginAnswer : Inputs → Limits → ℕ × List ℕ
+unfoldable pub beginAnswer : Inputs → Limits → ℕ × List ℕ
 beginAnswer i l = said (begins i l .answer)
 
 pub beginning : List (Row (ℕ × List ℕ))
@@ -116,6 +121,9 @@ beginning =
     ∷ (beginAnswer (both (replicate 9 0 ++ replicate 6 1) (replicate 15 1)) (limits 5 5) gives number 8)
     ∷ (beginAnswer (both (replicate 2 0 ++ 1 ∷ replicate 4 0 ++ 1 ∷ replicate 4 0 ++ 1 ∷ 0 ∷ 0 ∷ []) (replicate 15 1)) (limits 5 5) gives number 9)
     ∷ (beginAnswer (both open0 (replicate 15 1)) (limits 5 5) gives number 7)
+    ∷ (beginAnswer (both open0 (replicate 9 0 ++ replicate 6 1)) (limits 5 5) gives number 8)
+    ∷ (beginAnswer (both open0 (replicate 2 0 ++ 1 ∷ replicate 4 0 ++ 1 ∷ replicate 4 0 ++ 1 ∷ 0 ∷ 0 ∷ [])) (limits 5 5) gives number 9)
+    ∷ (beginAnswer (given W (at 0 1) (at 4 1) still0 Nobody (2 ∷ []) (place 6 0 W W ∷ []) (replicate 9 0 ++ replicate 6 1) []) (limits 5 5) gives number 8)
     ∷ (beginAnswer (alone (replicate 6145 (place 6 0 W W))) (limits 5 5) gives number 14)
     ∷ (beginAnswer (alone (good ∷ place 6 0 W W ∷ place 0 1 W W ∷ [])) (limits 5 5) gives (15, 1 ∷ []))
     ∷ (beginAnswer (alone (good ∷ good ∷ place 5 1 W W ∷ [])) (limits 5 5) gives (15, 2 ∷ []))
@@ -131,7 +139,12 @@ pub begin-refuses : gots beginning ≡ wants beginning
 unfolding computing driving reach both beginAnswer beginning
 begin-refuses = refl
 
--- 4 writes nothing; 7 and 15 leave the working areas zero and the others as they were
+-- the paper's window with an allowed mover and one placement
+unfoldable pub whole : Inputs
+whole = given W (at 0 1) (at 4 1) still0 (Bounded still0) (2 ∷ []) (good ∷ []) open0 open0
+
+-- 4 writes nothing; 7 and 15 leave the working areas zero and the others as they were; an accepted one leaves a record with the empty set pending and zeros up to
+-- every length
 pub beginLeaves : List (Row After)
 beginLeaves =
     (begins (given W (at 0 1) (at 4 1) (reach 257) Nobody [] [] open0 []) (limits 5 5)
@@ -140,15 +153,37 @@ beginLeaves =
     gives record { answer = refusedBy 7 []; rec = noRecord; work = zeroed; store = storeFor (both [] []) (limits 5 5) })
     ∷ (begins (alone (place 6 0 W W ∷ [])) (limits 5 5)
     gives record { answer = refusedBy 15 (0 ∷ []); rec = noRecord; work = zeroed; store = storeFor (alone (good ∷ [])) (limits 5 5) })
+    ∷ (begins whole (limits 5 2)
+    gives record {
+      answer = none;
+      rec = record {
+        reason = 1;
+        evaluations = 0;
+        placements = 1;
+        layouts = 0;
+        lists = 0;
+        pending = true;
+        routes = replicate 32 0;
+        lengths = replicate 6 0;
+        nexts = replicate 6 0;
+      };
+      work = zeroed;
+      store = record {
+        lists = replicate 6 0 ++ 9 ∷ [];
+        visited = replicate 35 0 ++ 9 ∷ [];
+        layouts = replicate 14 0 ++ 9 ∷ [];
+        points = replicate 60 0 ++ 9 ∷ [];
+      };
+    })
     ∷ []
 
 pub begin-leaves : gots beginLeaves ≡ wants beginLeaves
-unfolding computing driving reach both zeroed beginLeaves
+unfolding computing driving reach both zeroed whole beginLeaves
 begin-leaves = refl
 
 -- ---- judging
 pub judged : Inputs → List ℕ → AfterJudge
-judged i s = judgeCall eightSteps i s (workFor W)
+judged i s = judgeCall eightSteps i s (workFor (i .query .window))
 
 -- 15 and 17 write nothing: not ascending, a member twice, one that names no placement, seven members
 pub judging : List (Row AfterJudge)
@@ -163,3 +198,30 @@ judging =
 pub judge-refuses : gots judging ≡ wants judging
 unfolding computing driving judged judging
 judge-refuses = refl
+
+-- an accepted one leaves the working areas zero: six members of seven, and a wall across a row of three centres
+pub six-judged : judged (alone (replicate 7 good)) (0 ∷ 1 ∷ 2 ∷ 3 ∷ 4 ∷ 5 ∷ []) ≡ record { answer = judges Slots 12; work = zeroed }
+unfolding computing driving zeroed judged
+six-judged = refl
+
+pub corridor : Inputs
+corridor = given (box 0 0 3 1) (at 0 0) (at 2 0) still0 Nobody (1 ∷ []) (plain (box 1 0 2 1) ∷ []) (replicate 3 0) []
+
+pub judge-leaves : judged corridor (0 ∷ [])
+    ≡ record {
+      answer = judges Wall 2;
+      work = record {
+        counts = replicate 8 (pos 0) ++ pos 9 ∷ [];
+        map = 0 ∷ 0 ∷ 0 ∷ 9 ∷ [];
+        queue = 0 ∷ 0 ∷ 0 ∷ 9 ∷ [];
+        predecessors = 0 ∷ 0 ∷ 0 ∷ 9 ∷ [];
+        route = 0 ∷ 0 ∷ 0 ∷ 9 ∷ [];
+      };
+    }
+unfolding computing driving judged corridor
+judge-leaves = refl
+
+-- the answers of the code
+pub answers-judged : judgementOf (AVerdict Spare 10) ∷ judgementOf (ARefusal (PlacementInvalid 7)) ∷ [] ≡ judges Spare 10 ∷ refuses (record { number = 15; values = 7 ∷ [] }) ∷ []
+unfolding computing
+answers-judged = refl

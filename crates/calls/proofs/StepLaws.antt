@@ -1,11 +1,12 @@
 -- The laws of step through record and areas: what an accepted begin or step leaves is accepted by the next calls with the same inputs; a and then b is a + b;
--- after a stop and for zero nothing that is used changes; a step by n evaluates exactly n sets or the search stops.
+-- after a stop and for zero nothing that is used changes; a step by n hands exactly n sets to the evaluation, or at most n and the search stops, and it looks at
+-- no other evaluation. Each is the law of the search on the state that record and areas hold, which is read back from what the step leaves.
 use Prim.Native.Nat.{ℕ, zero, suc, _+_, _≤_, _<_}
 use mathlib.Core.Path.{_≡_, refl, sym, _∙_, ap, subst}
 use mathlib.Core.Bool.{Bool, true, false, _&&_}
 use mathlib.Core.Logic.{_⊎_, inl, inr, ⊎-elim, _≢_}
 use mathlib.Core.Option.{Option, none, some}
-use mathlib.Core.List.{List, [], _∷_, _++_}
+use mathlib.Core.List.{List, [], _∷_, _++_, List·Memᴰ}
 use native.Mathlib.Omega.{arith}
 use lib.Dec.{leb, ltb}
 use lib.ListN.{length, getD, length-append, length-map}
@@ -15,6 +16,7 @@ use Rattle.laws.proofs.Members.{both}
 use Rattle.laws.proofs.Lists.{length-below}
 use Rattle.model.specs.Answers.{Said, ask, first}
 use Rattle.model.specs.declared.Rect.{Rect}
+use Rattle.model.specs.declared.Position.{Position}
 use Rattle.model.specs.declared.Placement.{Placement}
 use Rattle.model.specs.declared.Limits.{Limits}
 use Rattle.model.specs.declared.Record.{Record}
@@ -22,11 +24,12 @@ use Rattle.rects.specs.Rects.{nonempty, holds}
 use Rattle.rects.specs.Windows.{windowFits, inWindow, positionOf}
 use Rattle.routes.specs.Edges.{Step, eachOnce}
 use Rattle.layouts.specs.Inputs.{Inputs, noPlace, boardOf}
+use Rattle.layouts.specs.Explore.{Outcome}
 use Rattle.layouts.proofs.Fits.{fits-six}
 use Rattle.layouts.proofs.Laid.{laid-board}
 use Rattle.search.specs.State.{Running, State, state}
 use Rattle.search.specs.Frames.{step, begun}
-use Rattle.search.proofs.Steps.{step-zero, step-add, step-stopped, handed, exactly-n}
+use Rattle.search.proofs.Steps.{step-zero, step-add, step-stopped, handed, exactly-n, evaluating, step-only}
 use Rattle.search.proofs.Exhaustive.{PlanOn}
 use Rattle.search.proofs.Formed.{Good, step-good, begun-good}
 use Rattle.calls.specs.Areas.{Work, Store, basesFit, workFits, storeFits, cleared, numberOf, reasonOf, rowOf, stateOf, recordOf, storeOf}
@@ -257,20 +260,36 @@ module _ (steps : List Step) (once : eachOnce steps ≡ true) (i : Inputs) (l : 
         (λ (d : r .reason ≢ numberOf Running). step-stopped (planOf steps i l) n (stateOf r store) (λ e. d (running-is (r .reason) (sound i r store l (found .fits) .low) e)))
         o
 
-    -- a step by n evaluates exactly n sets, or the search stops
-    pub step-exact : (n : ℕ) → (stepCall steps i l r n work store .rec .evaluations ≡ r .evaluations + n) ⊎ (stepCall steps i l r n work store .rec .reason ≢ numberOf Running)
+    -- What a step by n hands to the evaluation: the visited rows that record and areas then hold are those held before, followed by the sets handed over, in
+    -- order; the record's evaluations grow by so many; those are n, or at most n and the search has stopped.
+    pub record Hands (n : ℕ) : Type 0 where
+      pub order : stateOf (stepCall steps i l r n work store .rec) (stepCall steps i l r n work store .store) .visited
+          ≡ stateOf r store .visited ++ handed (planOf steps i l) n (stateOf r store)
+      pub grown : stepCall steps i l r n work store .rec .evaluations ≡ r .evaluations + length (handed (planOf steps i l) n (stateOf r store))
+      pub count : (length (handed (planOf steps i l) n (stateOf r store)) ≡ n)
+          ⊎ ((length (handed (planOf steps i l) n (stateOf r store)) ≤ n) × (stepCall steps i l r n work store .rec .reason ≢ numberOf Running))
+
+    pub step-exact : (n : ℕ) → Hands n
     unfolding left recordOf stateOf state
     step-exact n =
         let p = planOf steps i l in
         let s = stateOf r store in
         let x = exactly-n p n s in
         let v : length (s .visited) ≡ r .evaluations = length-map (below (r .evaluations)) (rowOf (store .visited)) ∙ length-below (r .evaluations) in
-        subst (λ (y : After). (y .rec .evaluations ≡ r .evaluations + n) ⊎ (y .rec .reason ≢ numberOf Running)) (sym (is n))
-        (⊎-elim
-        (λ (e : length (handed p n s) ≡ n). inl (omega (arith, ap (λ (q : List (List ℕ)). length q) (x .order), length-append (s .visited) (handed p n s))))
-        (λ (e : (length (handed p n s) ≤ n) × (step p n s .reason ≢ Running)).
-        inr (λ q. e .1 (sym (reason-back (step p n s .reason)) ∙ ap reasonOf q ∙ reason-back Running)))
-        (x .count))
+        let why : stepCall steps i l r n work store .rec .reason ≡ numberOf (step p n s .reason) = ap (λ (y : After). y .rec .reason) (is n) in
+        record {
+          order = ap (λ (y : After). stateOf (y .rec) (y .store) .visited) (is n) ∙ ap (λ (t : State). t .visited) (left-reads (step p n s) (good n) work store) ∙ x .order;
+          grown =
+              ap (λ (y : After). y .rec .evaluations) (is n)
+              ∙ omega (arith, ap (λ (q : List (List ℕ)). length q) (x .order), length-append (s .visited) (handed p n s), v);
+          count = ⊎-elim inl (λ e. inr (e .0, λ q. e .1 (sym (reason-back (step p n s .reason)) ∙ ap reasonOf (sym why ∙ q) ∙ reason-back Running))) (x .count);
+        }
+
+    -- it looks at the evaluation of no other set: another evaluation that agrees on these leads to the same
+    pub step-looks : (n : ℕ) (f : List ℕ → Outcome Position)
+        → ((w : List ℕ) → List·Memᴰ w (handed (planOf steps i l) n (stateOf r store)) → f w ≡ planOf steps i l .evaluate w)
+        → stepCall steps i l r n work store ≡ left (step (evaluating (planOf steps i l) f) n (stateOf r store)) work store
+    step-looks n f a = is n ∙ ap (λ (t : State). left t work store) (sym (step-only (planOf steps i l) f n (stateOf r store) a))
 
   -- ---- what an accepted begin leaves is accepted by step, with any number
   module _ (work : Work) (store : Store) (yes₀ : beginCall steps i l work store .answer ≡ none) where

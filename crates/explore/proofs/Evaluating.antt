@@ -15,7 +15,8 @@ use Rattle.model.specs.declared.Bounds.{Bounds}
 use Rattle.model.specs.declared.Allow.{Allow}
 use Rattle.model.specs.declared.Allow.the-variants.{Nobody, Bounded}
 use Rattle.model.specs.declared.Query.{Query}
-use Rattle.cover.specs.Cover.{moverIn, lift, Named}
+use Rattle.rects.specs.Windows.{centres}
+use Rattle.cover.specs.Cover.{coverOf, moverIn, lift, Named}
 use Rattle.cover.proofs.Lifts.{lift-past}
 use Rattle.routes.specs.Edges.{Step}
 use Rattle.routes.proofs.RouteTheorem.{route-blocked}
@@ -26,6 +27,7 @@ use Rattle.extend.specs.Join.{Listed}
 use Rattle.explore.specs.declared.Explored as answer
 use Rattle.explore.specs.declared.Passage as passage
 use Rattle.explore.specs.Ready.{AllowReady, Moving, passed, minimal, allowedPast, allowIn, flatBoard}
+use Rattle.explore.specs.Maps.{mapAfterAllowed}
 use Rattle.explore.specs.Evaluation.{outcomeOf, numberOf, sizeOf, listAfter, pathAfter, Evaluated, passageOf, pointsIn, Allowed}
 
 -- ---- routes laid into a path
@@ -178,3 +180,12 @@ module _ (w : Rect) (steps : List Step) (start end : ℕ) (edges : List ℤ) (al
   pub allow-past : (m : Bounds) → allow ≡ Bounded m → passed w steps start end (moverIn w edges m base) (lift (length s) s) ≡ allowedPast w steps start end (allowIn w edges allow base) s
   unfolding allowIn allowedPast
   allow-past m e = rw e (ap (passed w steps start end (moverIn w edges m base)) (lift-past (length s) s (omega arith)))
+
+  pub map-nobody : allow ≡ Nobody → (cells : List ℕ) → cells ≡ mapAfterAllowed w (allowIn w edges allow base) s cells
+  unfolding allowIn mapAfterAllowed
+  map-nobody e cells = rw e
+
+  pub map-past : (m : Bounds) → allow ≡ Bounded m → (cells cells′ : List ℕ) → cells′ ≡ coverOf (moverIn w edges m base) (centres w) (lift (length s) s)
+      → cells′ ≡ mapAfterAllowed w (allowIn w edges allow base) s cells
+  unfolding allowIn mapAfterAllowed
+  map-past m e cells cells′ l = rw e (l ∙ ap (coverOf (moverIn w edges m base) (centres w)) (lift-past (length s) s (omega arith)))

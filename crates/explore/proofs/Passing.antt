@@ -1,30 +1,24 @@
 -- Routes past a set: the map that the code lays is the set's, so the route over it is the route past the set. A path that was clear is clear again when the
 -- points of the route are wiped.
-use Prim.Native.Nat.{ℕ, suc, _+_, _*_, _≤_, _<_}
-use mathlib.Core.Path.{_≡_, refl, sym, ap, ap₂, _∙_}
+use Prim.Native.Nat.{ℕ, _*_, _≤_, _<_}
+use mathlib.Core.Path.{_≡_, refl, ap, ap₂, _∙_}
 use mathlib.Core.Bool.{Bool, true, false, not}
 use mathlib.Core.Option.{Option, none, some}
-use mathlib.Core.List.{List, _∷_, _++_}
-use native.Mathlib.Numerals.{add-one}
+use mathlib.Core.List.{List, _++_}
 use native.Mathlib.Omega.{arith}
 use lib.Dec.{eqb}
 use lib.ListN.{length, getD, take, drop, replicate, length-append, length-drop, length-replicate}
-use lib.Seq.{take-all}
-use Rattle.laws.specs.Lists.{allOf, isSome, without, ascends}
 use Rattle.laws.proofs.Stores.{take-replicate, laid-cleared}
-use Rattle.laws.proofs.Turns.{all-more}
-use Rattle.laws.proofs.Tests.{all-false}
 use Rattle.model.specs.declared.Rect.{Rect}
 use Rattle.rects.specs.Windows.{width, height, centres}
 use Rattle.routes.specs.Edges.{Step, windowEdges}
 use Rattle.routes.specs.Routes.{route}
 use Rattle.layouts.specs.Boards.{Mover, leavesOpen}
-use Rattle.cover.specs.Cover.{bit, coverOf, lift}
+use Rattle.cover.specs.Cover.{bit, coverOf}
 use Rattle.cover.proofs.Covers.{cover-at}
-use Rattle.cover.proofs.Lifts.{lift-without}
 use Rattle.route.specs.Ground.{openIn}
 use Rattle.route.specs.Results.{Routed, pointsOf, laidInto}
-use Rattle.explore.specs.Ready.{Lent, Kept, passed, minimal}
+use Rattle.explore.specs.Ready.{Lent, Kept, passed}
 use Rattle.explore.proofs.Nearby.{window-route-same}
 
 open-bit : (b : Bool) → eqb (bit (not b)) 0 ≡ b
@@ -65,51 +59,6 @@ wiped-by (some p) c path path′ e l s =
 
 pub wiped : (o : Option (List ℕ)) (c : ℕ) (path path′ : List ℕ) (r : ℕ) → path ≡ replicate c 0 → Routed o path path′ r → length path′ ≡ length path → Wiped path path′ r
 wiped o c path path′ r e t s = rw (t .count) (wiped-by o c path path′ e (t .points) s)
-
--- ---- members lifted in turn
--- k members are lifted in turn, each giving a route
-pub record Lifting (w : Rect) (steps : List Step) (start end : ℕ) (m : Mover) (s map queue previous path map′ queue′ previous′ path′ : List ℕ) (k : ℕ) : Type 0 where
-  pub upto : k ≤ length s
-  pub so : allOf (λ (i : ℕ). isSome (passed w steps start end m (without i s))) (take k s) ≡ true
-  pub size : length map′ ≡ length map
-  pub kept : Kept queue previous path queue′ previous′ path′
-
-module _ (w : Rect) (steps : List Step) (start end : ℕ) (m : Mover) (s : List ℕ) (rising : ascends s ≡ true) where
-  abbrev lifts : ℕ → Bool
-  lifts i = isSome (passed w steps start end m (without i s))
-
-  at-lift : (k : ℕ) → k < length s → (r : Bool) → r ≡ isSome (passed w steps start end m (lift k s)) → lifts (getD s k 0) ≡ r
-  at-lift k h r e = sym (e ∙ ap (λ (l : List ℕ). isSome (passed w steps start end m l)) (lift-without k s rising h))
-
-  pub lifting-start : (map queue previous path : List ℕ) → Lifting w steps start end m s map queue previous path map queue previous path 0
-  unfolding allOf
-  lifting-start map queue previous path =
-      record { upto = omega arith; so = refl; size = refl; kept = record { queueKept = refl; previousKept = refl; pathKept = refl } }
-
-  module _ {map queue previous path map′ queue′ previous′ path′ : List ℕ} {k : ℕ} (l : Lifting w steps start end m s map queue previous path map′ queue′ previous′ path′ k) where
-    pub lifting-kept : {q₂ p₂ r₂ : List ℕ} → Kept queue′ previous′ path′ q₂ p₂ r₂ → Kept queue previous path q₂ p₂ r₂
-    lifting-kept t = record {
-      queueKept = t .queueKept ∙ l .kept .queueKept;
-      previousKept = t .previousKept ∙ l .kept .previousKept;
-      pathKept = t .pathKept ∙ l .kept .pathKept;
-    }
-
-    pub lifting-more : (r : Bool) {m₂ q₂ p₂ r₂ : List ℕ} → k < length s → r ≡ isSome (passed w steps start end m (lift k s)) → r ≡ true → length m₂ ≡ length map′
-        → Kept queue′ previous′ path′ q₂ p₂ r₂ → Lifting w steps start end m s map queue previous path m₂ q₂ p₂ r₂ (k + 1)
-    lifting-more r h e t z q = record {
-      upto = omega arith;
-      so = rw add-one (all-more lifts s k 0 h (at-lift k h r e ∙ t) (l .so));
-      size = z ∙ l .size;
-      kept = lifting-kept q;
-    }
-
-    pub lifting-stop : (r : Bool) → k < length s → r ≡ isSome (passed w steps start end m (lift k s)) → r ≡ false → false ≡ minimal w steps start end m s
-    unfolding minimal
-    lifting-stop r h e f = sym (all-false lifts 0 s k h (at-lift k h r e ∙ f))
-
-    pub lifting-all : length s ≤ k → true ≡ minimal w steps start end m s
-    unfolding minimal
-    lifting-all h = sym (rw (take-all k s h) at (l .so))
 
 -- the areas can be lent again
 pub lent-again : {w : Rect} {start end : ℕ} {map queue previous path map′ queue′ previous′ path′ : List ℕ} → Lent w start end map queue previous path → length map′ ≡ length map

@@ -1,4 +1,4 @@
-// The evaluation and the judging of one set of placements.
+// The evaluation of one set of placements, and its parts: a route past the set, whether it is a minimal block, the allowed mover's route.
 use model::Allow;
 use model::Bounds;
 use model::Position;
@@ -19,6 +19,7 @@ ghost use Rattle.cover.specs.Cover.{coverOf, moverIn, lift, Named};
 ghost use Rattle.route.specs.Results as route;
 ghost use Rattle.explore.specs.Ready.{Ready, Blank, AllowReady, Lent, Moving, Shutting, Kept, passed, minimal, allowedPast, allowIn, flatBoard};
 ghost use Rattle.explore.specs.Evaluation.{Evaluated, Restored, Allowed};
+ghost use Rattle.explore.specs.Maps.{mapAfterLifting, mapAfterAllowed};
 ghost use Rattle.layouts.specs.Flat.{inputsOf};
 
 // What the evaluation of a set comes to: nothing follows, so many extensions in the list, or a wall with so many points of the allowed route in the path.
@@ -63,7 +64,7 @@ pub fn route_past(
     route::route(map, width, height, steps, start, end, queue, previous, path)
 }
 
-// Whether the set without its member number `lifted` leaves the mover a route.
+// Whether the set without its member number `lifted` leaves the mover a route. The map is left laid.
 fn lets_pass(
     base: &[u8],
     window: Rect,
@@ -83,6 +84,7 @@ fn lets_pass(
     requires { ⌜ Moving window mover (now base) (now edges) (now set) ⌝ }
     ensures { λ r. ⌜ r ≡ isSome (passed window (stepsOf (now (steps .entry))) start end (moverIn window (now (edges .entry)) mover (now (base .entry))) (lift lifted (now (set .entry)))) ⌝ }
     ensures { λ r. ⌜ Kept (now (queue .entry)) (now (previous .entry)) (now (path .entry)) (now (queue .exit)) (now (previous .exit)) (now (path .exit)) ⌝ }
+    ensures { λ r. ⌜ now (map .exit) ≡ coverOf (moverIn window (now (edges .entry)) mover (now (base .entry))) (centres window) (lift lifted (now (set .entry))) ⌝ }
 {
     let n = route_past(
         base,
@@ -103,7 +105,8 @@ fn lets_pass(
     0 < n
 }
 
-// Whether lifting any one member leaves the mover open ends and a route.
+// Whether lifting any one member leaves the mover open ends and a route. It stops at the first member that does not; the map is left as laid without the
+// member last lifted.
 pub fn is_minimal_block(
     base: &[u8],
     window: Rect,
@@ -123,6 +126,7 @@ pub fn is_minimal_block(
     requires { ⌜ ascends (now set) ≡ true ⌝ }
     ensures { λ r. ⌜ r ≡ minimal window (stepsOf (now (steps .entry))) start end (moverIn window (now (edges .entry)) mover (now (base .entry))) (now (set .entry)) ⌝ }
     ensures { λ r. ⌜ Kept (now (queue .entry)) (now (previous .entry)) (now (path .entry)) (now (queue .exit)) (now (previous .exit)) (now (path .exit)) ⌝ }
+    ensures { λ r. ⌜ now (map .exit) ≡ mapAfterLifting window (stepsOf (now (steps .entry))) start end (moverIn window (now (edges .entry)) mover (now (base .entry))) (now (set .entry)) (now (map .entry)) ⌝ }
 {
     let mut k = 0;
     while k < set.len() {
@@ -148,7 +152,7 @@ pub fn is_minimal_block(
     true
 }
 
-// The allowed mover's route past the set, laid into the path; no points where there is no allowed mover.
+// The allowed mover's route past the set, laid into the path, and the set over its baseline; no points and nothing laid where there is no allowed mover.
 pub fn allowed_route(
     allow: Allow,
     base: &[u8],
@@ -168,6 +172,7 @@ pub fn allowed_route(
     requires { ⌜ Named (now edges) (now set) ⌝ }
     ensures { λ r. ⌜ Allowed (allowedPast window (stepsOf (now (steps .entry))) start end (allowIn window (now (edges .entry)) allow (now (base .entry))) (now (set .entry))) r (now (path .entry)) (now (path .exit)) ⌝ }
     ensures { λ r. ⌜ route.Restored (now (queue .entry)) (now (previous .entry)) (now (queue .exit)) (now (previous .exit)) ⌝ }
+    ensures { λ r. ⌜ now (map .exit) ≡ mapAfterAllowed window (allowIn window (now (edges .entry)) allow (now (base .entry))) (now (set .entry)) (now (map .entry)) ⌝ }
 {
     let Allow::Bounded(mover) = allow else {
         return Passage::Free(0);

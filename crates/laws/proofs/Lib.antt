@@ -9,3 +9,4 @@ pub mod Tests
 pub mod Tables
 pub mod Turns
 pub mod Blocks
+pub mod Firsts

@@ -1,10 +1,9 @@
 -- Tests over lists, taken one element at a time, as loops do; and tests that agree on a list's members.
-use Prim.Native.Nat.{ℕ, zero, suc, _+_, _<_}
+use Prim.Native.Nat.{ℕ, zero, suc, _<_}
 use mathlib.Core.Path.{_≡_, refl, sym, ap, ap₂, _∙_}
 use mathlib.Core.Bool.{Bool, true, false, _&&_, _||_, or-assoc, or-false}
 use mathlib.Core.List.{List, [], _∷_, _++_, append-nil, List·Memᴰ, List·Memᴰ·head, List·Memᴰ·tail}
 use native.Mathlib.Nat.{not-suc-le-zero, le-of-suc-le-suc}
-use native.Mathlib.Omega.{arith}
 use lib.ListN.{length, getD, take}
 use lib.Seq.{take-suc}
 use Rattle.laws.specs.Lists.{anyOf, allOf, select}
@@ -28,17 +27,6 @@ module _ {A : Type 0} (f : A → Bool) where
       either-true : (a : Bool) {b : Bool} → b ≡ true → (a || b) ≡ true
       either-true true h = refl
       either-true false h = h
-
-  -- ---- all
-  pub all-more : (s : List A) (k : ℕ) (d : A) → k < length s → f (getD s k d) ≡ true → allOf f (take k s) ≡ true → allOf f (take (suc k) s) ≡ true
-  unfolding allOf
-  all-more [] k d l e h = absurd (not-suc-le-zero l)
-  all-more (x ∷ s) zero d l e h = rw e
-  all-more (x ∷ s) (suc k) d l e h = on (f x) (allOf f (take k s)) (allOf f (take (suc k) s)) (all-more s k d (le-of-suc-le-suc l) e) h
-    where
-      on : (a p q : Bool) → (p ≡ true → q ≡ true) → (a && p) ≡ true → (a && q) ≡ true
-      on true p q g h = g h
-      on false p q g h = h
 
   -- ---- filter
   pub filter-hit : (s : List A) (x : A) → f x ≡ true → select f (s ++ (x ∷ [])) ≡ select f s ++ (x ∷ [])

@@ -7,7 +7,7 @@ use mathlib.Core.List.{List, _++_, append-assoc}
 use native.Mathlib.Omega.{arith}
 use lib.Dec.{leb, eqb}
 use lib.ListN.{length, getD, take, drop, length-append, length-drop, length-map}
-use lib.Seq.{take-all, take-at, drop-at, drop-drop}
+use lib.Seq.{take-all, take-at, drop-at, drop-drop, length-take-le}
 use borrow.Author.Tests.{leb-true, leb-false, lt-leb, le-leb}
 use mir.Val.{Val}
 use denote.Laws.{Is}
@@ -19,7 +19,8 @@ use Rattle.model.specs.declared.Record.{Record}
 use Rattle.model.proofs.Record as Recordᵀ
 use Rattle.calls.specs.Calls.{noRecord}
 use Rattle.calls.proofs.Whole.{Shape}
-use Rattle.numbered.specs.Numbers.{oneWhere, numbersOf, recordOf, recordIn, leftIn, lentOf}
+use Rattle.numbered.specs.Numbers.{oneWhere, numbersOf, recordOf}
+use Rattle.numbered.specs.Lent.{recordIn, leftIn, lentOf}
 
 -- ---- how much of the visited area is lent on
 pub lent-short : (n visited : ℕ) → n < 50 → lentOf n visited ≡ 0
@@ -108,13 +109,30 @@ unfolding oneWhere
 one-at-most true = omega arith
 one-at-most false = omega arith
 
-pub record-back : (r : Record) (rest : List ℕ) → Shape r → recordIn (numbersOf r ++ rest) ≡ r
-unfolding numbersOf recordOf
-record-back r rest s =
-    in-whole (numbersOf r ++ rest) (omega (arith, rows-long (r .routes) (r .lengths) (r .nexts) rest (s .routes) (s .lengths) (s .nexts))) (one-at-most (r .pending))
-    ∙ rw (
-      first-row (r .routes) (r .lengths) (r .nexts) rest (s .routes) (s .lengths) (s .nexts),
-      second-row (r .routes) (r .lengths) (r .nexts) rest (s .routes) (s .lengths) (s .nexts),
-      third-row (r .routes) (r .lengths) (r .nexts) rest (s .routes) (s .lengths) (s .nexts),
-      one-where (r .pending),
-    )
+module _ (r : Record) (rest : List ℕ) (s : Shape r) where
+  pub laid-long : 50 ≤ length (numbersOf r ++ rest)
+  unfolding numbersOf
+  laid-long = omega (arith, rows-long (r .routes) (r .lengths) (r .nexts) rest (s .routes) (s .lengths) (s .nexts))
+
+  pub laid-pending : getD (numbersOf r ++ rest) 5 0 ≤ 1
+  unfolding numbersOf
+  laid-pending = one-at-most (r .pending)
+
+  pub record-back : recordOf (numbersOf r ++ rest) ≡ r
+  unfolding numbersOf recordOf
+  record-back =
+      rw (
+        first-row (r .routes) (r .lengths) (r .nexts) rest (s .routes) (s .lengths) (s .nexts),
+        second-row (r .routes) (r .lengths) (r .nexts) rest (s .routes) (s .lengths) (s .nexts),
+        third-row (r .routes) (r .lengths) (r .nexts) rest (s .routes) (s .lengths) (s .nexts),
+        one-where (r .pending),
+      )
+
+-- fifty numbers are a record whose arrays have these lengths
+pub shape-of : (ns : List ℕ) → 50 ≤ length ns → Shape (recordOf ns)
+unfolding recordOf
+shape-of ns h = record {
+  routes = length-take-le 32 (drop 6 ns) (omega (arith, length-drop 6 ns));
+  lengths = length-take-le 6 (drop 38 ns) (omega (arith, length-drop 38 ns));
+  nexts = length-take-le 6 (drop 44 ns) (omega (arith, length-drop 44 ns));
+}

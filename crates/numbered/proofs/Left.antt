@@ -1,47 +1,26 @@
 -- What the code finds after a call is what the definitions leave.
-use Prim.Native.Nat.{ℕ, _*_, _+_}
-use mathlib.Core.Path.{_≡_, refl, sym, _∙_, ap, ap₂}
-use mathlib.Core.Bool.{Bool, true, false, not, true≢false}
+use Prim.Native.Nat.{ℕ}
+use mathlib.Core.Path.{_≡_, refl, sym, _∙_, ap}
+use mathlib.Core.Bool.{true, false, not, true≢false}
 use mathlib.Core.Option.{Option, none, some}
 use mathlib.Core.List.{List, [], _++_, append-nil}
-use native.Mathlib.Omega.{arith}
-use lib.Dec.{leb}
-use lib.ListN.{length, getD, take, drop}
-use lib.Seq.{take-length, drop-length}
-use borrow.Author.Tests.{leb-true, leb-false}
+use lib.ListN.{length, getD, take, drop, take-append-drop}
+use lib.Seq.{drop-length}
+use borrow.Author.Tests.{leb-true}
 use Rattle.laws.specs.Lists.{total, isSome}
-use Rattle.laws.proofs.Members.{either}
 use Rattle.model.specs.Answers.{Said, first}
 use Rattle.model.specs.declared.Limits.{Limits}
 use Rattle.model.specs.declared.Record.{Record}
-use Rattle.routes.specs.Edges.{Step, eightSteps}
+use Rattle.routes.specs.Edges.{eightSteps}
 use Rattle.layouts.specs.Inputs.{Inputs}
-use Rattle.calls.specs.Areas.{Work, Store, storeIn, pointsOf}
-use Rattle.calls.specs.Checks.{placeChecks}
-use Rattle.calls.specs.Calls.{
-  Preparation,
-  Prepared,
-  prepareCall,
-  After,
-  noRecord,
-  beginChecks,
-  beginCall,
-  stepChecks,
-  stepCall,
-  readChecks,
-  ReadOut,
-  readCall,
-  AfterJudge,
-  judgeCall,
-}
-use Rattle.calls.proofs.StepLaws.{first-both}
-use Rattle.calls.proofs.Sound.{long}
-use Rattle.calls.proofs.Reading.{read-checks, read-refused, read-is}
-use Rattle.checks.proofs.Passed.{begun-found}
+use Rattle.calls.specs.Areas.{Work, Store, storeIn}
+use Rattle.calls.specs.Calls.{Preparation, Prepared, prepareCall, After, noRecord, beginCall, stepCall, readChecks, AfterJudge, judgeCall}
 use Rattle.read.specs.Told.{numberIn, indexIn}
-use Rattle.numbered.specs.Numbers.{lentOf, recordIn, leftIn, judgedAnswer, judgedIndex, judgedVerdict, judgedGround}
-use Rattle.numbered.specs.Left.{prepareOn, lentStore, keptStore, fifty, Left, leftBy, beginOn, stepOn, placeOf, readOn, judgeOn}
-use Rattle.numbered.proofs.Fifty.{lent-short, lent-whole}
+use Rattle.numbered.specs.Numbers.{recordOf, numbersAfter, judgedAnswer, judgedIndex, judgedVerdict, judgedGround}
+use Rattle.numbered.specs.Left.{prepareOn, fifty, Left, beginChecksOn, stepChecksOn, turned, leftBy, beginOn, stepOn, readChecksOn, placeOf, readOn, judgeOn}
+use Rattle.numbered.specs.Lent.{lentOf, recordIn, leftIn}
+use Rattle.numbered.proofs.Fifty.{left-laid}
+use Rattle.numbered.proofs.Lent.{all-lent, lent-is, begin-fifty, begin-same, step-read, step-same, read-read, read-same}
 
 -- ---- preparing and judging
 pub prepare-left : (q : Preparation) (b : List ℕ) (w : Work) (o : Prepared) (n : ℕ) → prepareCall eightSteps q b w ≡ o → n ≡ numberIn (o .answer)
@@ -55,135 +34,100 @@ pub judge-left : (i : Inputs) (s : List ℕ) (w : Work) (o : AfterJudge) (n x v 
 unfolding judgeOn
 judge-left i s w o n x v g e en ex ev eg = rw (e, en, ex, ev, eg)
 
--- ---- an empty visited area is too short
-no-visited : (i : Inputs) (l : Limits) (w : Work) (lists layouts points : List ℕ) → first (beginChecks i l w (storeIn lists [] layouts points)) ≡ none → ⊥
-no-visited i l w lists layouts points e =
-    let f = begun-found i l w (storeIn lists [] layouts points) e in
-    let g = long i l (storeIn lists [] layouts points) (f .storeLong) in
-    omega (arith, g .visited, f .limiting .someStates)
-
-begin-short : (i : Inputs) (l : Limits) (w : Work) (lists layouts points : List ℕ)
-    → beginCall eightSteps i l w (storeIn lists [] layouts points) .store ≡ storeIn lists [] layouts points
-unfolding beginCall
-begin-short i l w lists layouts points = go (first (beginChecks i l w (storeIn lists [] layouts points))) refl
-  where
-    go : (x : Option Said) → first (beginChecks i l w (storeIn lists [] layouts points)) ≡ x
-        → beginCall eightSteps i l w (storeIn lists [] layouts points) .store ≡ storeIn lists [] layouts points
-    go none e = absurd (no-visited i l w lists layouts points e)
-    go (some d) e = rw (e, beginCall)
-
-step-short : (i : Inputs) (l : Limits) (r : Record) (n : ℕ) (w : Work) (lists layouts points : List ℕ)
-    → stepCall eightSteps i l r n w (storeIn lists [] layouts points) .store ≡ storeIn lists [] layouts points
-unfolding stepCall stepChecks
-step-short i l r n w lists layouts points = go (first (stepChecks i l r w (storeIn lists [] layouts points))) refl
-  where
-    go : (x : Option Said) → first (stepChecks i l r w (storeIn lists [] layouts points)) ≡ x
-        → stepCall eightSteps i l r n w (storeIn lists [] layouts points) .store ≡ storeIn lists [] layouts points
-    go none e =
-        let a = first-both (beginChecks i l w (storeIn lists [] layouts points) ++ placeChecks i) _ e in
-        absurd (no-visited i l w lists layouts points (first-both (beginChecks i l w (storeIn lists [] layouts points)) (placeChecks i) (a .0) .0))
-    go (some d) e = rw (e, stepCall)
-
 -- ---- a search
-module _ (call : Store → After) (ns lists visited layouts points : List ℕ)
-    (short : call (storeIn lists [] layouts points) .store ≡ storeIn lists [] layouts points) where
+after-is : (o : Option Said) (r : Record) (ns : List ℕ) → fifty ns ≡ true → numbersAfter o r ns ≡ leftIn o r ns
+unfolding numbersAfter leftIn fifty
+after-is none r ns h = left-laid r ns (leb-true 50 (length ns) h)
+after-is (some e) r ns h = refl
+
+module _ (i : Inputs) (l : Limits) (ns : List ℕ) (w : Work) (lists visited layouts points : List ℕ) (room : ℕ)
+    (r : room ≡ lentOf (length ns) (length visited)) where
   abbrev given : Store
   given = storeIn lists visited layouts points
 
-  abbrev lent : ℕ → Store
-  lent room = storeIn lists (take room visited) layouts points
+  abbrev lent : Store
+  lent = storeIn lists (take room visited) layouts points
 
   -- the areas with what was not lent of the visited area behind
-  abbrev joined : ℕ → Store → Store
-  joined room a = storeIn (a .lists) (a .visited ++ drop room visited) (a .layouts) (a .points)
+  abbrev after : Store → Store
+  after a = storeIn (a .lists) (a .visited ++ drop room visited) (a .layouts) (a .points)
 
-  abbrev made : After → Store → Left
-  made o a = record {
+  abbrev found : After → Left
+  found o = record {
     answer = numberIn (o .answer);
     index = indexIn (o .answer);
     numbers = leftIn (o .answer) (o .rec) ns;
     work = o .work;
-    store = a;
+    store = after (o .store);
   }
 
-  -- a record with all its numbers: all of the visited area is lent
-  on-whole : (room : ℕ) (o : After) → room ≡ length visited → call (lent room) ≡ o → leftBy true call ns given ≡ made o (joined room (o .store))
-  unfolding leftBy lentStore keptStore
-  on-whole room o r e =
-      let f : take room visited ≡ visited = ap (λ (k : ℕ). take k visited) r ∙ take-length visited in
-      let g : drop room visited ≡ [] = ap (λ (k : ℕ). drop k visited) r ∙ drop-length visited in
-      ap (λ (v : List ℕ). made (call (storeIn lists v layouts points)) (call (storeIn lists v layouts points) .store)) (sym f)
-      ∙ ap (λ (x : After). made x (x .store)) e
-      ∙ ap (λ (v : List ℕ). made o (storeIn (o .store .lists) v (o .store .layouts) (o .store .points)))
-      (sym (append-nil (o .store .visited)) ∙ ap (λ (v : List ℕ). o .store .visited ++ v) (sym g))
+  on-refusal : (e : Said) (s : Record) → turned e ns w given ≡ found (record { answer = some e; rec = s; work = w; store = lent })
+  unfolding turned leftIn numberIn indexIn
+  on-refusal e s = ap (λ (v : List ℕ). turned e ns w (storeIn lists v layouts points)) (sym (take-append-drop room visited))
 
-  -- one that is too short: nothing is, and the call changes no area of the search
-  on-short : (room : ℕ) (o : After) → room ≡ 0 → call (lent room) ≡ o → leftBy false call ns given ≡ made o (joined room (o .store))
-  unfolding leftBy lentStore keptStore
-  on-short room o r e =
-      let f : call (storeIn lists [] layouts points) ≡ o = ap (λ (k : ℕ). call (lent k)) (sym r) ∙ e in
-      let g : o .store ≡ storeIn lists [] layouts points = sym (ap (λ (x : After). x .store) f) ∙ short in
-      ap (λ (x : After). made x given) f ∙ ap (λ (a : Store). made o (joined 0 a)) (sym g) ∙ ap (λ (k : ℕ). made o (joined k (o .store))) (sym r)
+  on-whole : fifty ns ≡ true → (o : After) → leftBy o ns ≡ found o
+  unfolding leftBy
+  on-whole h o =
+      let g : drop room visited ≡ [] = ap (λ (k : ℕ). drop k visited) (all-lent i l ns given room r h) ∙ drop-length visited in
+      ap (λ (ms : List ℕ). record { answer = numberIn (o .answer); index = indexIn (o .answer); numbers = ms; work = o .work; store = o .store })
+      (after-is (o .answer) (o .rec) ns h)
+      ∙ ap (λ (v : List ℕ). record {
+        answer = numberIn (o .answer);
+        index = indexIn (o .answer);
+        numbers = leftIn (o .answer) (o .rec) ns;
+        work = o .work;
+        store = storeIn (o .store .lists) v (o .store .layouts) (o .store .points);
+      }) (sym (append-nil (o .store .visited)) ∙ ap (λ (v : List ℕ). o .store .visited ++ v) (sym g))
 
-  pub left-is : (room : ℕ) (o : After) (n x : ℕ) (ms : List ℕ) → room ≡ lentOf (length ns) (length visited) → call (lent room) ≡ o → n ≡ numberIn (o .answer)
-      → x ≡ indexIn (o .answer) → ms ≡ leftIn (o .answer) (o .rec) ns
-      → leftBy (fifty ns) call ns given ≡ record { answer = n; index = x; numbers = ms; work = o .work; store = joined room (o .store) }
-  unfolding fifty
-  left-is room o n x ms r e en ex em =
-      either (leb 50 (length ns))
-      (λ t. ap (λ (w : Bool). leftBy w call ns given) t ∙ on-whole room o (r ∙ lent-whole (length ns) (length visited) (leb-true 50 (length ns) t)) e)
-      (λ t. ap (λ (w : Bool). leftBy w call ns given) t ∙ on-short room o (r ∙ lent-short (length ns) (length visited) (leb-false 50 (length ns) t)) e)
-      ∙ rw (en, ex, em)
+  begin-found : beginOn i l ns w given ≡ found (beginCall eightSteps i l w lent)
+  unfolding beginOn beginCall
+  begin-found = go (first (beginChecksOn i l ns w given)) refl
+    where
+      go : (o : Option Said) → first (beginChecksOn i l ns w given) ≡ o → beginOn i l ns w given ≡ found (beginCall eightSteps i l w lent)
+      go none e =
+          let h = begin-fifty i l ns given w e in
+          rw (e, beginOn) (on-whole h (beginCall eightSteps i l w given) ∙ ap (λ (a : Store). found (beginCall eightSteps i l w a)) (sym (lent-is i l ns given room r h)))
+      go (some x) e = rw (e, beginOn, sym (begin-same i l ns given room r w) ∙ e, beginCall) (on-refusal x noRecord)
 
-module _ (i : Inputs) (l : Limits) (ns : List ℕ) (w : Work) (lists visited layouts points : List ℕ) (room : ℕ)
-    (r : room ≡ lentOf (length ns) (length visited)) where
-  abbrev after : After → Store
-  after o = storeIn (o .store .lists) (o .store .visited ++ drop room visited) (o .store .layouts) (o .store .points)
+  step-found : (k : ℕ) → stepOn i l ns k w given ≡ found (stepCall eightSteps i l (recordIn ns) k w lent)
+  unfolding stepOn stepCall
+  step-found k = go (first (stepChecksOn i l ns w given)) refl
+    where
+      go : (o : Option Said) → first (stepChecksOn i l ns w given) ≡ o → stepOn i l ns k w given ≡ found (stepCall eightSteps i l (recordIn ns) k w lent)
+      go none e =
+          let h = step-read i l ns given w e in
+          rw (e, stepOn)
+          (on-whole (h .0) (stepCall eightSteps i l (recordOf ns) k w given)
+          ∙ ap (λ (x : Record). found (stepCall eightSteps i l x k w given)) (sym (h .1))
+          ∙ ap (λ (a : Store). found (stepCall eightSteps i l (recordIn ns) k w a)) (sym (lent-is i l ns given room r (h .0))))
+      go (some x) e = rw (e, stepOn, sym (step-same i l ns given room r w) ∙ e, stepCall) (on-refusal x (recordIn ns))
 
-  pub begin-left : (o : After) (n x : ℕ) (ms : List ℕ) → beginCall eightSteps i l w (storeIn lists (take room visited) layouts points) ≡ o
+  pub begin-left : (o : After) (n x : ℕ) (ms : List ℕ) → beginCall eightSteps i l w lent ≡ o
       → n ≡ numberIn (o .answer) → x ≡ indexIn (o .answer) → ms ≡ leftIn (o .answer) (o .rec) ns
-      → beginOn i l ns w (storeIn lists visited layouts points) ≡ record { answer = n; index = x; numbers = ms; work = o .work; store = after o }
-  unfolding beginOn
-  begin-left o n x ms = left-is (beginCall eightSteps i l w) ns lists visited layouts points (begin-short i l w lists layouts points) room o n x ms r
+      → beginOn i l ns w given ≡ record { answer = n; index = x; numbers = ms; work = o .work; store = after (o .store) }
+  begin-left o n x ms e en ex em = begin-found ∙ ap found e ∙ rw (en, ex, em)
 
-  pub step-left : (k : ℕ) (o : After) (n x : ℕ) (ms : List ℕ)
-      → stepCall eightSteps i l (recordIn ns) k w (storeIn lists (take room visited) layouts points) ≡ o
+  pub step-left : (k : ℕ) (o : After) (n x : ℕ) (ms : List ℕ) → stepCall eightSteps i l (recordIn ns) k w lent ≡ o
       → n ≡ numberIn (o .answer) → x ≡ indexIn (o .answer) → ms ≡ leftIn (o .answer) (o .rec) ns
-      → stepOn i l ns k w (storeIn lists visited layouts points) ≡ record { answer = n; index = x; numbers = ms; work = o .work; store = after o }
-  unfolding stepOn
-  step-left k o n x ms =
-      left-is (stepCall eightSteps i l (recordIn ns) k w) ns lists visited layouts points (step-short i l (recordIn ns) k w lists layouts points) room o n x ms r
+      → stepOn i l ns k w given ≡ record { answer = n; index = x; numbers = ms; work = o .work; store = after (o .store) }
+  step-left k o n x ms e en ex em = step-found k ∙ ap found e ∙ rw (en, ex, em)
 
 -- ---- reading
 module _ (i : Inputs) (l : Limits) (ns : List ℕ) (k : ℕ) (lists visited layouts points : List ℕ) where
-  lent-is : (room : ℕ) → room ≡ lentOf (length ns) (length visited)
-      → lentStore (fifty ns) (storeIn lists visited layouts points) ≡ storeIn lists (take room visited) layouts points
-  unfolding fifty lentStore
-  lent-is room r =
-      either (leb 50 (length ns))
-      (λ t.
-      ap (λ (w : Bool). lentStore w (storeIn lists visited layouts points)) t
-      ∙ ap (λ (v : List ℕ). storeIn lists v layouts points)
-      (sym (ap (λ (j : ℕ). take j visited) (r ∙ lent-whole (length ns) (length visited) (leb-true 50 (length ns) t)) ∙ take-length visited)))
-      (λ t.
-      ap (λ (w : Bool). lentStore w (storeIn lists visited layouts points)) t
-      ∙ ap (λ (j : ℕ). storeIn lists (take j visited) layouts points)
-      (sym (r ∙ lent-short (length ns) (length visited) (leb-false 50 (length ns) t))))
+  pub read-place : (room : ℕ) → room ≡ lentOf (length ns) (length visited) → (o : Option Said)
+      → o ≡ first (readChecks i l (recordIn ns) k (storeIn lists (take room visited) layouts points))
+      → readOn i l ns k (storeIn lists visited layouts points) ≡ placeOf o (recordIn ns) k
+  unfolding readOn placeOf
+  read-place room r o said =
+      go (first (readChecksOn i l ns k given)) refl ∙ ap (λ (x : Option Said). placeOf x (recordIn ns) k) (read-same i l ns given room r k ∙ sym said)
+    where
+      given : Store
+      given = storeIn lists visited layouts points
 
-  module _ (room : ℕ) (r : room ≡ lentOf (length ns) (length visited)) (o : Option Said)
-      (said : o ≡ first (readChecks i l (recordIn ns) k (storeIn lists (take room visited) layouts points))) where
-    abbrev lent-part : Store
-    lent-part = storeIn lists (take room visited) layouts points
-
-    answer-is : (x : Option Said) → x ≡ first (readChecks i l (recordIn ns) k lent-part) → readCall i l (recordIn ns) k lent-part .answer ≡ x
-    answer-is none e = ap (λ (y : ReadOut). y .answer) (read-is i l (recordIn ns) k lent-part (sym e))
-    answer-is (some d) e = ap (λ (y : ReadOut). y .answer) (read-refused i l (recordIn ns) k lent-part d (sym e))
-
-    pub read-place : readOn i l ns k (storeIn lists visited layouts points) ≡ placeOf o (recordIn ns) k
-    unfolding readOn
-    read-place =
-        ap (λ (a : Store). placeOf (readCall i l (recordIn ns) k a .answer) (recordIn ns) k) (lent-is room r)
-        ∙ ap (λ (x : Option Said). placeOf x (recordIn ns) k) (answer-is o said)
+      go : (x : Option Said) → first (readChecksOn i l ns k given) ≡ x
+          → placeOf (first (readChecksOn i l ns k given)) (recordOf ns) k ≡ placeOf (first (readChecksOn i l ns k given)) (recordIn ns) k
+      go none e = ap (λ (x : Record). placeOf (first (readChecksOn i l ns k given)) x k) (sym (read-read i l ns given k e .1))
+      go (some x) e = rw e
 
 pub place-refused : (o : Option Said) (r : Record) (k n x : ℕ) → not (isSome o) ≡ false → n ≡ numberIn o → x ≡ indexIn o
     → placeOf o r k ≡ record { answer = n; index = x; first = 0; count = 0 }
@@ -196,18 +140,3 @@ pub place-accepted : (o : Option Said) (r : Record) (k x f c : ℕ) → not (isS
 unfolding placeOf numberIn indexIn isSome
 place-accepted none r k x f c e ex ef ec = rw (ex, ef, ec)
 place-accepted (some d) r k x f c e ex ef ec = absurd (true≢false (sym e))
-
--- accepted, the route handed back is that part of the points area
-lent-points : (whole : Bool) (a : Store) → lentStore whole a .points ≡ a .points
-unfolding lentStore
-lent-points true a = refl
-lent-points false a = refl
-
-pub read-part : (i : Inputs) (l : Limits) (ns : List ℕ) (k : ℕ) (a : Store) → readCall i l (recordIn ns) k (lentStore (fifty ns) a) .answer ≡ none
-    → readCall i l (recordIn ns) k (lentStore (fifty ns) a) .points ≡ take (2 * readOn i l ns k a .count) (drop (2 * readOn i l ns k a .first) (a .points))
-unfolding readOn placeOf pointsOf
-read-part i l ns k a e =
-    let r = recordIn ns in
-    ap (λ (y : ReadOut). y .points) (read-is i l r k (lentStore (fifty ns) a) (read-checks i l r k (lentStore (fifty ns) a) e))
-    ∙ ap (λ (p : List ℕ). take (2 * getD (r .routes) k 0) (drop (2 * total (take k (r .routes))) p)) (lent-points (fifty ns) a)
-    ∙ ap (λ (x : Option Said). take (2 * placeOf x r k .count) (drop (2 * placeOf x r k .first) (a .points))) (sym e)

@@ -5,7 +5,6 @@ use lib.IntN.{ℤ}
 use mir.Syntax.{w32}
 use mir.Val.{toZ, ofZ, SFits}
 use mir.Facts.{toZ-ofZ}
-use Rattle.model.specs.declared.Rect.{Rect}
 use Rattle.rects.specs.Rects.{rect}
 use Rattle.numbered.specs.Numbers.{queryFrom}
 

@@ -1,20 +1,22 @@
 -- What the calls leave where every value is a number.
 use Prim.Native.Nat.{ℕ}
-use mathlib.Core.Bool.{Bool, true, false}
+use mathlib.Core.Bool.{Bool, _&&_}
 use mathlib.Core.Option.{Option, none, some}
-use mathlib.Core.List.{List, []}
-use lib.Dec.{leb}
+use mathlib.Core.List.{List, [], _∷_, _++_}
+use lib.Dec.{leb, ltb}
 use lib.ListN.{length, getD, take}
 use Rattle.laws.specs.Lists.{total}
-use Rattle.model.specs.Answers.{Said}
+use Rattle.model.specs.Answers.{Said, ask, first}
 use Rattle.model.specs.declared.Limits.{Limits}
 use Rattle.model.specs.declared.Record.{Record}
 use Rattle.routes.specs.Edges.{eightSteps}
 use Rattle.layouts.specs.Inputs.{Inputs}
-use Rattle.calls.specs.Areas.{Work, Store, storeIn}
-use Rattle.calls.specs.Calls.{Preparation, prepareCall, After, beginCall, stepCall, readCall, judgeCall}
+use Rattle.calls.specs.Areas.{Work, Store, workFits, storeFits}
+use Rattle.calls.specs.Checks.{groupChecks, limitChecks, queryChecks, placeChecks}
+use Rattle.calls.specs.RecordCheck.{recordFits}
+use Rattle.calls.specs.Calls.{Preparation, prepareCall, After, beginCall, stepCall, judgeCall}
 use Rattle.read.specs.Told.{numberIn, indexIn}
-use Rattle.numbered.specs.Numbers.{recordIn, leftIn, judgedAnswer, judgedIndex, judgedVerdict, judgedGround}
+use Rattle.numbered.specs.Numbers.{recordOf, numbersAfter, judgedAnswer, judgedIndex, judgedVerdict, judgedGround}
 
 -- ---- preparing
 pub record LeftPrepared : Type 0 where
@@ -27,21 +29,6 @@ prepareOn q baseline work =
     let o = prepareCall eightSteps q baseline work in record { answer = numberIn (o .answer); baseline = o .baseline; work = o .work }
 
 -- ---- a search
--- The areas that a call is made with. A record of fewer than fifty numbers is an area that is too short: the visited area is then taken as empty,
--- so that 6 comes in its place.
-unfoldable pub lentStore : (whole : Bool) → Store → Store
-lentStore true a = a
-lentStore false a = storeIn (a .lists) [] (a .layouts) (a .points)
-
--- and as they are after it
-unfoldable pub keptStore : (whole : Bool) → (before after : Store) → Store
-keptStore true before after = after
-keptStore false before after = before
-
--- the record has all its fifty numbers
-unfoldable pub fifty : List ℕ → Bool
-fifty ns = leb 50 (length ns)
-
 -- what a call leaves: the answer and its index, the record's numbers, the areas
 pub record Left : Type 0 where
   pub answer : ℕ
@@ -50,22 +37,37 @@ pub record Left : Type 0 where
   pub work : Work
   pub store : Store
 
-unfoldable pub leftBy : (whole : Bool) → (Store → After) → (numbers : List ℕ) → Store → Left
-leftBy whole call ns store =
-    let o = call (lentStore whole store) in
-    record {
-      answer = numberIn (o .answer);
-      index = indexIn (o .answer);
-      numbers = leftIn (o .answer) (o .rec) ns;
-      work = o .work;
-      store = keptStore whole store (o .store);
-    }
+-- the record's numbers are one more area: fewer than fifty are too short
+unfoldable pub fifty : (numbers : List ℕ) → Bool
+fifty ns = leb 50 (length ns)
+
+unfoldable pub beginChecksOn : Inputs → Limits → (numbers : List ℕ) → Work → Store → List (Option Said)
+beginChecksOn i l ns work store =
+    groupChecks i ++ limitChecks l ++ queryChecks i (workFits (i .query .window) work && storeFits i l store && fifty ns)
+
+-- 16 for a pending above 1 too
+unfoldable pub numbersFit : Inputs → Limits → (numbers : List ℕ) → Store → Bool
+numbersFit i l ns store = leb (getD ns 5 0) 1 && recordFits i (recordOf ns) store l
+
+unfoldable pub stepChecksOn : Inputs → Limits → (numbers : List ℕ) → Work → Store → List (Option Said)
+stepChecksOn i l ns work store = beginChecksOn i l ns work store ++ placeChecks i ++ ask 16 (numbersFit i l ns store) ∷ []
+
+-- a refusal: its number and index, nothing else written
+unfoldable pub turned : Said → (numbers : List ℕ) → Work → Store → Left
+turned e ns work store = record { answer = e .number; index = getD (e .values) 0 0; numbers = ns; work = work; store = store }
+
+-- what a call leaves, its record laid as numbers; a begin can still be refused here, by 7, 8, 9, 14 or 15
+unfoldable pub leftBy : After → (numbers : List ℕ) → Left
+leftBy o ns =
+    record { answer = numberIn (o .answer); index = indexIn (o .answer); numbers = numbersAfter (o .answer) (o .rec) ns; work = o .work; store = o .store }
 
 unfoldable pub beginOn : Inputs → Limits → (numbers : List ℕ) → Work → Store → Left
-beginOn i l ns work store = leftBy (fifty ns) (beginCall eightSteps i l work) ns store
+beginOn i l ns work store =
+    elim (first (beginChecksOn i l ns work store)) [ some e ↦ turned e ns work store | none ↦ leftBy (beginCall eightSteps i l work store) ns ]
 
 unfoldable pub stepOn : Inputs → Limits → (numbers : List ℕ) → (n : ℕ) → Work → Store → Left
-stepOn i l ns n work store = leftBy (fifty ns) (stepCall eightSteps i l (recordIn ns) n work) ns store
+stepOn i l ns n work store =
+    elim (first (stepChecksOn i l ns work store)) [ some e ↦ turned e ns work store | none ↦ leftBy (stepCall eightSteps i l (recordOf ns) n work store) ns ]
 
 -- ---- reading
 -- where layout k's route begins among the kept points, and how many points it has; both 0 on a refusal
@@ -75,12 +77,17 @@ pub record LeftRead : Type 0 where
   pub first : ℕ
   pub count : ℕ
 
+unfoldable pub readChecksOn : Inputs → Limits → (numbers : List ℕ) → (k : ℕ) → Store → List (Option Said)
+readChecksOn i l ns k store =
+    groupChecks i ++ limitChecks l ++ queryChecks i (storeFits i l store && fifty ns) ++ placeChecks i
+    ++ ask 16 (numbersFit i l ns store) ∷ ask 17 (ltb k (recordOf ns .layouts)) ∷ []
+
 unfoldable pub placeOf : Option Said → Record → (k : ℕ) → LeftRead
 placeOf none r k = record { answer = 0; index = 0; first = total (take k (r .routes)); count = getD (r .routes) k 0 }
 placeOf (some e) r k = record { answer = e .number; index = getD (e .values) 0 0; first = 0; count = 0 }
 
 unfoldable pub readOn : Inputs → Limits → (numbers : List ℕ) → (k : ℕ) → Store → LeftRead
-readOn i l ns k store = placeOf (readCall i l (recordIn ns) k (lentStore (fifty ns) store) .answer) (recordIn ns) k
+readOn i l ns k store = placeOf (first (readChecksOn i l ns k store)) (recordOf ns) k
 
 -- ---- judging
 pub record LeftJudged : Type 0 where

@@ -1,11 +1,11 @@
 -- What the calls are given and leave where every value is a number.
 use Prim.Native.Nat.{ℕ, zero, suc}
-use mathlib.Core.Bool.{Bool, true, false, _&&_}
+use mathlib.Core.Bool.{Bool, true, false}
 use mathlib.Core.Option.{Option, none, some}
 use mathlib.Core.List.{List, [], _∷_, _++_}
-use lib.Dec.{leb, eqb}
+use lib.Dec.{eqb}
 use lib.IntN.{ℤ}
-use lib.ListN.{length, getD, take, drop}
+use lib.ListN.{getD, take, drop}
 use Rattle.model.specs.Answers.{Said}
 use Rattle.model.specs.declared.Allow.{Allow}
 use Rattle.model.specs.declared.Allow.the-variants.{Nobody, Bounded}
@@ -14,7 +14,7 @@ use Rattle.model.specs.declared.Record.{Record}
 use Rattle.model.specs.declared.Verdict.{Verdict}
 use Rattle.model.specs.declared.Verdict.the-variants.{Slots, Overlap, EndCovered, Open, Spare, Shut, Wall}
 use Rattle.rects.specs.Rects.{rect}
-use Rattle.calls.specs.Calls.{noRecord, Judgement, refuses, judges}
+use Rattle.calls.specs.Calls.{Judgement, refuses, judges}
 
 -- ---- the query
 -- 0 is nobody; any other number lets the mover with these bounds pass
@@ -57,18 +57,10 @@ recordOf ns = record {
   nexts = take 6 (drop 44 ns);
 }
 
--- the record that is refused by 16 where there are fewer than fifty numbers or pending is above 1
-unfoldable pub recordIn : List ℕ → Record
-recordIn ns = elim (leb 50 (length ns) && leb (getD ns 5 0) 1) [ true ↦ recordOf ns | false ↦ noRecord ]
-
--- the numbers after a call: the record's where it is accepted, and past the fiftieth what stood there; on a refusal what stood there
-unfoldable pub leftIn : Option Said → Record → List ℕ → List ℕ
-leftIn none r ns = elim (leb 50 (length ns)) [ true ↦ numbersOf r ++ drop 50 ns | false ↦ ns ]
-leftIn (some e) r ns = ns
-
--- how much of a visited area of this length is lent on with a record of so many numbers: nothing where they are fewer than fifty
-unfoldable pub lentOf : (numbers visited : ℕ) → ℕ
-lentOf n visited = elim (leb 50 n) [ true ↦ visited | false ↦ 0 ]
+-- the numbers after a call: an accepted one lays the record's and leaves what stood past the fiftieth, a refused one leaves all that stood there
+unfoldable pub numbersAfter : Option Said → Record → List ℕ → List ℕ
+numbersAfter none r ns = numbersOf r ++ drop 50 ns
+numbersAfter (some e) r ns = ns
 
 -- ---- a judgement as four numbers
 unfoldable pub verdictNumber : Verdict → ℕ

@@ -17,7 +17,8 @@ ghost use Rattle.laws.specs.Lists.{total};
 ghost use Rattle.model.specs.Answers.{replyOf};
 ghost use Rattle.calls.specs.Calls.{noRecord, judgementOf};
 ghost use Rattle.read.specs.Told.{numberIn, indexIn};
-ghost use Rattle.numbered.specs.Numbers.{allowFrom, queryFrom, recordOf, recordIn, oneWhere, numbersOf, lentOf, leftIn, verdictNumber, judgedAnswer, judgedIndex, judgedVerdict, judgedGround};
+ghost use Rattle.numbered.specs.Numbers.{allowFrom, queryFrom, recordOf, oneWhere, numbersOf, verdictNumber, judgedAnswer, judgedIndex, judgedVerdict, judgedGround};
+ghost use Rattle.numbered.specs.Lent.{recordIn, lentOf, leftIn};
 
 // How many numbers a record is.
 const FIFTY: usize = 50;

@@ -1,4 +1,4 @@
--- The laws of writing: one text after another, a number digit by digit. Assumes nothing.
+-- The laws of writing: one text after another, a number digit by digit, a signed number, and how long a number is. Assumes nothing.
 use mathlib.Core.Path.{_≡_, refl, sym, ap, _∙_, subst}
 use mathlib.Core.Bool.{Bool, true, false}
 use mathlib.Core.List.{List, [], _∷_, _++_}
@@ -6,17 +6,13 @@ use Prim.Native.Nat.{ℕ, zero, suc, _+_, _-_, _*_, _/_, _%_, _≤_, _<_}
 use native.Mathlib.Omega.{arith}
 use native.Mathlib.Nat.{div-add-mod', mod-lt, div-lt-self}
 use native.Mathlib.Numerals.{add-one}
-use lib.Dec.{leb, ltb}
-use borrow.Author.Tests.{lt-leb, leb-true, leb-false, ltb-true, ltb-false}
+use lib.Dec.{ltb}
+use borrow.Author.Tests.{ltb-true, ltb-false}
 use lib.ListN.{length, set, length-append}
 use lib.Seq.{sets, length-sets}
-use Rattle.laws.specs.Fill.{over}
-use Rattle.laws.proofs.Ints.{leb-iff}
-use Rattle.laws.proofs.Stores.{over-sets}
-use Rattle.text.specs.Forms.{Form, decimal, signed}
+use Rattle.text.specs.Forms.{decimal, signed}
 use Rattle.text.proofs.Decimals.{one-digit, digit-more, signed-plain, signed-minus}
-use Rattle.print.specs.Writing.{Put, Writes}
-use Rattle.print.specs.declared.Written.the-variants as written
+use Rattle.print.specs.Writing.{Put}
 
 pub sets-append : (xs ys l : List ℕ) (i : ℕ) → sets l i (xs ++ ys) ≡ sets (sets l i xs) (i + length xs) ys
 sets-append [] ys l i = ap (λ (k : ℕ). sets l k ys) (omega arith)
@@ -28,10 +24,6 @@ put-then v w before mid out at i n h k = record {
   text = k .text ∙ ap (λ (l : List ℕ). sets l i w) (h .text) ∙ ap (λ (m : ℕ). sets (sets before at v) m w) (h .ends) ∙ sym (sets-append v w before at);
   ends = (let a : i ≡ at + length v = h .ends in let b : n ≡ i + length w = k .ends in omega (arith, length-append v w));
 }
-
--- a part stored
-pub put-over : (w before out : List ℕ) (at n : ℕ) → at + length w ≤ length before → out ≡ over before at w → n ≡ at + length w → Put w before at out n
-put-over w before out at n room e ends = record { text = e ∙ sym (over-sets before at w room); ends = ends }
 
 pub put-byte : (c : ℕ) (before : List ℕ) (at : ℕ) → Put (c ∷ []) before at (set before at c) (at + 1)
 put-byte c before at = record { text = refl; ends = refl }
@@ -99,24 +91,6 @@ counted-more n v k h w =
 
 pub counted-done : (n v k : ℕ) → v ≤ 9 → Counted n v k → k ≡ length (decimal n)
 counted-done n v k h w = let a : k + length (decimal v) ≡ length (decimal n) + 1 = w .all in omega (arith, one-long v (omega arith))
-
--- ---- the answers
-module _ {A : Type 0} (f : Form A) (a : A) (before : List ℕ) (at m : ℕ) (fits : f .fits a) (e : m ≡ length (f .spell a)) where
-  pub room-of : leb (at + m) (length before) ≡ true → at + length (f .spell a) ≤ length before
-  room-of h = omega (arith, leb-true (at + m) (length before) h)
-
-  pub no-room : leb (at + m) (length before) ≡ false → Writes f a before at before written.NoRoom
-  no-room h = record { answer = record { fits = fits; long = omega (arith, leb-false (at + m) (length before) h); area = refl } }
-
-  pub fitted : leb (at + m) (length before) ≡ true → (out : List ℕ) (n : ℕ) → Put (f .spell a) before at out n → Writes f a before at out (written.At n)
-  fitted h out n w = record { answer = record { fits = fits; room = room-of h; put = w } }
-
--- ---- room by the code's tests
-pub room-beyond : (long at n : ℕ) → long < at → false ≡ leb (at + n) long
-room-beyond long at n h = sym (lt-leb (at + n) long (omega arith))
-
-pub room-left : (long at n : ℕ) → at ≤ long → leb n (long - at) ≡ leb (at + n) long
-room-left long at n h = leb-iff n (long - at) (at + n) long (λ k. omega arith) (λ k. omega arith)
 
 -- a number has at most one digit more than its value
 short-by : (t n : ℕ) → n < t → length (decimal n) ≤ n + 1

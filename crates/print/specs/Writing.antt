@@ -1,4 +1,4 @@
--- What the writers leave: the spelling of a value in range stands in the area from a place on and all else is as before; or nothing was
+-- What writing leaves: the spelling of a value in range stands in the area from a place on and all else is as before; or nothing was
 -- written, because it has no room or the value is not in range.
 use mathlib.Core.Path.{_≡_}
 use mathlib.Core.List.{List}

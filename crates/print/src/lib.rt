@@ -1,16 +1,16 @@
-// Writers of canonical texts: each writes the spelling of a value of a form at a place of a lent area, or nothing. Every public function
-// answers every input; none has a `requires`.
+// Canonical texts written: a line by its pattern, at a place of a lent area. `put_line` answers every input; it has no `requires`.
 ghost use mathlib.Core.Path.{_≡_};
-ghost use mathlib.Core.Bool.{true, false};
-ghost use Prim.Native.Nat.{_+_, _-_, _≤_, _<_};
+ghost use mathlib.Core.Bool.{true};
+ghost use Prim.Native.Nat.{_+_, _≤_};
 ghost use lib.Dec.{leb};
-ghost use lib.ListN.{length, take, drop, getD};
-ghost use Rattle.text.specs.Forms.{decimal, signed, word, number, integer, digits};
+ghost use lib.ListN.{length};
+ghost use Rattle.text.specs.Forms.{decimal, signed};
 ghost use Rattle.text.specs.Patterns.{line, piece, isNumber, formOf, fields};
 ghost use Rattle.print.specs.Writing.{Put, Writes};
 ghost use Rattle.print.specs.Inner.{Decides};
 
-// The answer of the writers: the place after what was written, or that it has no room, or that the values are not in range.
+// The answer of `put_line`: the place after the line; or, with nothing written, that it has no room or that the values are not those of such
+// a line.
 pub enum Written {
     At(usize),
     NoRoom,
@@ -62,79 +62,6 @@ fn integer_put(out: &mut [u8], at: usize, x: u32) -> usize
     }
     out[at] = 45;
     number_put(out, at + 1, 4294967295 - x + 1)
-}
-
-// Whether a text of n bytes has room from a place on.
-fn has_room(long: usize, at: usize, n: usize) -> bool
-    ensures { λ r. ⌜ r ≡ leb (at + n) long ⌝ }
-{
-    if long < at {
-        return false;
-    }
-    n <= long - at
-}
-
-// Writes a number.
-pub fn put_number(out: &mut [u8], at: usize, n: u32) -> Written
-    ensures { λ r. ⌜ Writes (number 4294967295) n (now (out .entry)) at (now (out .exit)) r ⌝ }
-{
-    if !has_room(out.len(), at, digit_count(n)) {
-        return Written::NoRoom;
-    }
-    Written::At(number_put(out, at, n))
-}
-
-// Writes a signed number, given as a word.
-pub fn put_integer(out: &mut [u8], at: usize, x: u32) -> Written
-    ensures { λ r. ⌜ Writes integer x (now (out .entry)) at (now (out .exit)) r ⌝ }
-{
-    if !has_room(out.len(), at, sign_count(x)) {
-        return Written::NoRoom;
-    }
-    Written::At(integer_put(out, at, x))
-}
-
-// Writes these bytes.
-pub fn put_word(out: &mut [u8], at: usize, bytes: &[u8]) -> Written
-    ensures { λ r. ⌜ Writes (word (now (bytes .entry))) tt (now (out .entry)) at (now (out .exit)) r ⌝ }
-{
-    if !has_room(out.len(), at, bytes.len()) {
-        return Written::NoRoom;
-    }
-    areas::copy_u8(&mut out[at..], bytes, bytes.len());
-    Written::At(at + bytes.len())
-}
-
-// Whether there is a value, and each is of a digit.
-fn in_digits(values: &[u8]) -> bool
-    ensures { λ r. ⌜ Decides (digits .fits (now (values .entry))) r ⌝ }
-{
-    let mut k = 0;
-    while k < values.len() {
-        if 9 < values[k] {
-            return false;
-        }
-        k = k + 1;
-    }
-    0 < k
-}
-
-// Writes digits run together.
-pub fn put_digits(out: &mut [u8], at: usize, values: &[u8]) -> Written
-    ensures { λ r. ⌜ Writes digits (now (values .entry)) (now (out .entry)) at (now (out .exit)) r ⌝ }
-{
-    if !in_digits(values) {
-        return Written::Values;
-    }
-    if !has_room(out.len(), at, values.len()) {
-        return Written::NoRoom;
-    }
-    let mut k = 0;
-    while k < values.len() {
-        out[at + k] = 48 + values[k];
-        k = k + 1;
-    }
-    Written::At(at + k)
 }
 
 // Whether a value is of a number of a pattern.

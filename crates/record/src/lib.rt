@@ -1,4 +1,4 @@
-// Check 16, and the clearing of unused entries.
+// Check 16, on a record and the areas of its search.
 use extend::footprint_at;
 use extend::group_at;
 use model::Allow;

@@ -5,6 +5,7 @@ mod play;
 mod say;
 mod words;
 
+use arrival::Arrival;
 use model::Allow;
 use model::Bounds;
 use model::Limits;
@@ -285,10 +286,16 @@ fn say_error() {
     say::end();
 }
 
-// Answers the first n bytes of an area; an input that fills it may be cut off.
-fn answer_first(
+// Prints that the input did not arrive whole.
+fn say_cut() {
+    say::word(b"(refused 18)");
+    say::end();
+}
+
+// Answers what arrived whole and stands in the area.
+fn answer_arrived(
+    input: Arrival,
     text: &[u8],
-    n: usize,
     unsigned: &mut [u32; 4096],
     signed: &mut [i32; 4096],
     bytes: &mut [u8; 4096],
@@ -305,8 +312,12 @@ fn answer_first(
     layouts: &mut Layouts,
     points: &mut Points,
 ) {
-    if text.len() <= n {
-        say_error();
+    let Arrival::Whole(n) = input else {
+        say_cut();
+        return;
+    };
+    if text.len() < n {
+        say_cut();
         return;
     }
     let fine = answer_all(
@@ -351,10 +362,10 @@ fn answer_input(
     layouts: &mut Layouts,
     points: &mut Points,
 ) {
-    let n = io::read_full(0, text);
-    answer_first(
+    let input = input::read_all(libc::STDIN_FILENO, text);
+    answer_arrived(
+        input,
         text,
-        n,
         unsigned,
         signed,
         bytes,

@@ -1,11 +1,22 @@
-// A drive sheet answered on standard output.
+// The answer to what has arrived of an input.
+use arrival::Arrival;
 use sheet::Answered;
+ghost use Rattle.reply.specs.Inner.{InFront};
+ghost use Rattle.reply.specs.Replies.{Replies};
 
-// Writes the answer to a text to standard output, and tells whether all of it was written.
-pub fn reply(text: &[u8]) -> bool {
-    let mut out = [0u8; 262144];
-    let Answered::Written(n) = sheet::answer(text, &mut out) else {
-        return false;
+// Writes the answer: that to the text where it arrived whole and stands in the area, and otherwise the refusal 18. The result is the number of its bytes.
+pub fn reply(input: Arrival, area: &[u8], out: &mut [u8; 262144]) -> usize
+    ensures { λ r. ⌜ Replies input (now (area .entry)) (now (out .entry)) (now (out .exit)) r ⌝ }
+    ensures { λ r. ⌜ InFront r (now (out .exit)) ⌝ }
+{
+    let Arrival::Whole(n) = input else {
+        return results::write_refused(out, 18);
     };
-    io::write_all(libc::STDOUT_FILENO, &out[..n])
+    if area.len() < n {
+        return results::write_refused(out, 18);
+    }
+    let Answered::Written(end) = sheet::answer(&area[..n], out) else {
+        return 0;
+    };
+    end
 }

@@ -1,6 +1,6 @@
 -- Begin, one step and the text of what they leave. Assumes nothing.
 use Prim.Native.Nat.{ℕ, _≤_, _<_}
-use mathlib.Core.Path.{_≡_, refl, sym, ap, _∙_, subst}
+use mathlib.Core.Path.{_≡_, sym, ap, _∙_, subst}
 use mathlib.Core.Option.{none, some}
 use mathlib.Core.Bool.{true, _&&_}
 use mathlib.Core.List.{List, [], _∷_, _++_}
@@ -11,7 +11,6 @@ use Rattle.model.proofs.Asking.{ask-passes, first-passes}
 use Rattle.calls.specs.Checks.{groupChecks, limitChecks, queryChecks, placeChecks, firstMisplaced}
 use native.Mathlib.Omega.{arith}
 use lib.ListN.{length}
-use Rattle.laws.specs.Lists.{padded}
 use Rattle.model.specs.Answers.{Said, ask, first, refusal, saidOf, replyOf}
 use Rattle.model.specs.declared.Refusal.{Refusal}
 use Rattle.model.specs.declared.Refusal.the-variants.{MapInvalid, WindowInvalid, EndOutside, BoundTooLarge, ObstacleInvalid, AreaTooShort, StartBlocked, EndBlocked, NoRoute, GroupsInvalid, StateLimitInvalid, ResultLimitInvalid, BaselineInvalid, TooManyPlacements, PlacementInvalid, RecordInvalid, SelectionInvalid}
@@ -22,13 +21,12 @@ use Rattle.model.specs.declared.Record.{Record}
 use Rattle.routes.specs.Edges.{eightSteps}
 use Rattle.routes.proofs.StepLaws.{eight-once}
 use Rattle.layouts.specs.Inputs.{Inputs}
-use Rattle.search.specs.State.{state}
-use Rattle.search.specs.Frames.{begun}
-use Rattle.calls.specs.Areas.{Work, Store, recordOf}
+use Rattle.calls.specs.Areas.{Work, Store}
 use Rattle.calls.specs.Calls.{After, beginCall, stepCall}
 use Rattle.calls.proofs.Whole.{Shape}
 use Rattle.calls.proofs.Sound.{sound, long}
-use Rattle.calls.proofs.StepLaws.{first-both, left, step-checks, step-passed, step-accepted, begin-is}
+use Rattle.calls.proofs.StepLaws.{first-both, step-checks, step-passed, step-accepted}
+use Rattle.calls.proofs.Shapes.{begin-shape}
 use Rattle.results.specs.Inner.{enough, Writable}
 use Rattle.results.specs.Texts.{refusalText, resultText}
 use Rattle.results.proofs.Lengths.{Words, result-short}
@@ -78,11 +76,6 @@ after-leaves i l r n work store a shape e ok few =
       evaluations = omega (arith, s .visits, states-few i l (p .begins));
       placements = omega (arith, s .places, places-few i (p .places));
     }
-
-begun-shape : (i : Inputs) (l : Limits) (work : Work) (store : Store) → beginCall eightSteps i l work store .answer ≡ none → Shape (beginCall eightSteps i l work store .rec)
-unfolding left recordOf begun state padded
-begun-shape i l work store ok =
-    subst (λ (x : After). Shape (x .rec)) (sym (begin-is eightSteps eight-once i l work store ok)) (record { routes = refl; lengths = refl; nexts = refl })
 
 module _ (i : Inputs) (l : Limits) (work : Work) (store : Store) (b : After) (eb : beginCall eightSteps i l work store ≡ b) where
   pub begin-refused : (x : Said) → b .answer ≡ some x → stepText eightSteps i l (beginCall eightSteps i l work store) ≡ refusalText x
@@ -167,7 +160,7 @@ module _ (i : Inputs) (l : Limits) (work : Work) (store : Store) (o : Answer) (r
 
     pub search-steppable : (points out : List ℕ) → length points ≤ 16384 → enough ≤ length out → Steppable r points out
     search-steppable points out few room =
-        let s : Shape r = subst (λ (x : After). Shape (x .rec)) begun-same (begun-shape i l work store (ap (λ (x : After). x .answer) begun-same)) in
+        let s : Shape r = subst (λ (x : After). Shape (x .rec)) begun-same (begin-shape eightSteps eight-once i l work store (ap (λ (x : After). x .answer) begun-same)) in
         record { routes = s .routes; lengths = s .lengths; nexts = s .nexts; few = few; room = room }
 
     pub search-finished : (before out : List ℕ) (n : ℕ) → Front (stepText eightSteps i l (record { answer = none; rec = r; work = work′; store = store′ })) before out n

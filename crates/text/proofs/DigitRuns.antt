@@ -55,7 +55,7 @@ digits-bad (c ∷ t) h s = record { text = refl; begins = (0 ∷ [], 48 ∷ [], 
         let k : 57 < c = s (omega arith) in omega arith
 
 -- ---- the digits of a run
-pub all-of : (P : ℕ → Type 0) (l : List ℕ) → ((i : ℕ) → i < length l → P (getD l i 0)) → All P l
+all-of : (P : ℕ → Type 0) (l : List ℕ) → ((i : ℕ) → i < length l → P (getD l i 0)) → All P l
 all-of P [] h = tt
 all-of P (a ∷ l) h = (h 0 (omega arith), all-of P l (λ i k. h (suc i) (omega arith)))
 

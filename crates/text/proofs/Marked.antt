@@ -4,7 +4,7 @@ use mathlib.Core.Path.{_≡_, refl}
 use mathlib.Core.Bool.{true, false}
 use mathlib.Core.List.{List, [], _∷_}
 use Prim.Native.Nat.{ℕ}
-use Rattle.text.specs.Forms.{Form, decimal, decimalBy, signed, digits, _then_, many, perhaps, listed, word}
+use Rattle.text.specs.Forms.{Form, decimal, decimalBy, signed, digits, _then_, many, perhaps, listed}
 use Rattle.text.specs.Patterns.{bytes, is, good, repeats}
 use Rattle.text.proofs.Laws.{Joined, Apart, joined-closed}
 use Rattle.text.proofs.Pieces.{line-closed, line-apart}

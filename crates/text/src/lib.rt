@@ -1,16 +1,17 @@
-// Canonical texts, read and written by forms. Every public function answers every input; none has a `requires`.
+// Canonical texts read by their forms: numbers, lines by a pattern, runs of lines, digits run together; and what a pattern's bytes stand for.
+// Every public function answers every input; none has a `requires`.
 ghost use mathlib.Core.Path.{_≡_};
 ghost use mathlib.Core.List.{_++_};
-ghost use mathlib.Core.Bool.{true, false};
+ghost use mathlib.Core.Bool.{true};
 ghost use Prim.Native.Nat.{_+_, _-_, _≤_, _<_};
-ghost use lib.ListN.{length, take, drop, getD};
+ghost use lib.ListN.{length, drop, getD};
 ghost use Rattle.text.specs.Forms.{number as numberForm, integer as integerForm};
 ghost use Rattle.text.specs.Patterns.{good, fields, repeats, piece, limitOf, isNumber, formOf};
 ghost use Rattle.text.specs.Reading.{GotAt, Reads};
 ghost use Rattle.text.specs.Answers.{NumberRead, LineRead, RowsRead, OptionalRead, DigitsRead};
 ghost use Rattle.text.specs.Inner.{stepOf, Passes, Stored, DigitRun, cells};
 
-// The answer of a reader of one number: its value and the place after it, the place at fault, or that the place given is beyond the text.
+// The answer of `number`: its value and the place after it, the place at fault, or that the place given is beyond the text.
 pub enum Num {
     Read(u32, usize),
     Wrong(usize),
@@ -166,19 +167,6 @@ pub fn number(s: &[u8], at: usize, max: u32) -> Num
         return Num::Beyond;
     }
     match number_at(s, at, max) {
-        Step::Read(v, n) => Num::Read(v, n),
-        Step::Wrong(p) => Num::Wrong(p),
-    }
-}
-
-// Reads a signed number of 32 bits, as a word.
-pub fn integer(s: &[u8], at: usize) -> Num
-    ensures { λ r. ⌜ NumberRead integerForm (now (s .entry)) at r ⌝ }
-{
-    if s.len() < at {
-        return Num::Beyond;
-    }
-    match integer_at(s, at) {
         Step::Read(v, n) => Num::Read(v, n),
         Step::Wrong(p) => Num::Wrong(p),
     }

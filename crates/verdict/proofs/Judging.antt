@@ -1,7 +1,7 @@
 -- The verdict, test by test, and the areas that are lent for it.
 use Prim.Native.Nat.{ℕ, _*_, _<_}
-use mathlib.Core.Path.{_≡_, refl, sym, ap, ap₂, _∙_}
-use mathlib.Core.Bool.{Bool, true, false, not, _&&_, true≢false, false≢true}
+use mathlib.Core.Path.{_≡_, sym, ap, ap₂, _∙_}
+use mathlib.Core.Bool.{Bool, true, false, not, _&&_}
 use mathlib.Core.Option.{Option}
 use mathlib.Core.List.{List, [], _∷_, _++_}
 use lib.IntN.{ℤ}
@@ -25,24 +25,9 @@ use Rattle.cover.specs.Cover.{coverOf, moverIn}
 use Rattle.explore.specs.Ready.{Blank, Lent, Kept, passed, minimal, allowedPast, allowIn, flatBoard}
 use Rattle.explore.proofs.FlatBoard.{flat-board}
 use Rattle.explore.proofs.Passing.{open-is}
+use Rattle.laws.proofs.Firsts.{picked, passed-by, none-holds}
 use Rattle.explore.proofs.Evaluating.{flat-allowed}
 use Rattle.verdict.specs.Flags.{crowded, clashing, pastShut, pastFit}
-
--- ---- the first that holds
-module _ {A : Type 0} where
-  pub picked : (b : Bool) (a : A) (cs : List (Bool × A)) (o : A) → b ≡ true → firstOf ((b, a) ∷ cs) o ≡ a
-  unfolding firstOf
-  picked true a cs o e = refl
-  picked false a cs o e = absurd (false≢true e)
-
-  pub passed-by : (b : Bool) (a : A) (cs : List (Bool × A)) (o : A) → b ≡ false → firstOf ((b, a) ∷ cs) o ≡ firstOf cs o
-  unfolding firstOf
-  passed-by true a cs o e = absurd (true≢false e)
-  passed-by false a cs o e = refl
-
-  pub none-holds : (o : A) → firstOf [] o ≡ o
-  unfolding firstOf
-  none-holds o = refl
 
 -- ---- the verdict over placements lent flat
 module _ (q : Query) (start end n : ℕ) (groups numbers : List ℕ) (edges : List ℤ) (blockBase allowBase : List ℕ) (steps : List Step) (s : List ℕ) where

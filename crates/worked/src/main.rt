@@ -1,20 +1,34 @@
 // Answers the worked sheets, which stand on standard input one after the other, each after a line with the number of its bytes.
+use arrival::Arrival;
 use text::Num;
 
-// Answers the sheet at a place, and gives the place after it, or the end where no sheet stands.
+// Writes the answer to what has arrived of an input.
+fn write_reply(input: Arrival, area: &[u8]) {
+    let mut out = [0u8; 262144];
+    let n = reply::reply(input, area, &mut out);
+    io::write_all(libc::STDOUT_FILENO, &out[..n]);
+}
+
+// The input ends inside a sheet, or no number of bytes stands where one must: what is left is no whole text.
+fn refuse_rest(all: &[u8]) -> usize {
+    write_reply(Arrival::Cut, all);
+    all.len()
+}
+
+// Answers the sheet at a place, and gives the place after it.
 fn reply_at(all: &[u8], at: usize) -> usize {
     let Num::Read(n, end) = text::number(all, at, 65536) else {
-        return all.len();
+        return refuse_rest(all);
     };
     if all.len() - end <= n as usize {
-        return all.len();
+        return refuse_rest(all);
     }
     if all[end] != b'\n' {
-        return all.len();
+        return refuse_rest(all);
     }
     let from = end + 1;
     let to = from + n as usize;
-    reply::reply(&all[from..to]);
+    write_reply(Arrival::Whole(n as usize), &all[from..to]);
     to
 }
 
@@ -32,6 +46,10 @@ fn reply_all(all: &[u8]) {
 
 fn main() {
     let mut space = io::large_buffer();
-    let n = io::read_full(libc::STDIN_FILENO, &mut space);
+    let input = input::read_all(libc::STDIN_FILENO, &mut space);
+    let Arrival::Whole(n) = input else {
+        write_reply(input, &space);
+        return;
+    };
     reply_all(&space[..n]);
 }

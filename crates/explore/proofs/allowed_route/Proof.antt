@@ -1,11 +1,12 @@
--- `explore::allowed_route` meets its contract, by whether there is an allowed mover and by the points of its route.
+-- `explore::allowed_route` meets its contract, by whether there is an allowed mover and by the points of its route. Lifting the member numbered by the set's length
+-- lifts none.
 use mathlib.Core.Path.{refl, subst}
 use mathlib.Core.Option.{Option}
 use mathlib.Core.List.{List}
 use Prim.Native.Nat.{ℕ}
 use Rattle.route.specs.Results.{Routed}
 use Rattle.routes.specs.Edges.{stepsOf}
-use Rattle.explore.proofs.Evaluating.{allowed-shut, allowed-free, allow-nobody, allow-moving, allow-past}
+use Rattle.explore.proofs.Evaluating.{allowed-shut, allowed-free, allow-nobody, allow-moving, allow-past, map-nobody, map-past}
 use Rattle.explore.proofs.allowed_route.Statement.{statement}
 use Rattle.explore.proofs.allowed_route.Tie as tie
 
@@ -19,7 +20,7 @@ returns : tie.Need-returns
 returns c =
     let a = c .before .before .before .before .before .before .before .before .args in (
       allow-nobody (a .window) (stepsOf (a .steps .now)) (a .start) (a .end) (a .edges .now) (a .allow) (a .base .now) (a .set .now) (c .enum-told .given .1) (a .path .now),
-      record { queueSame = refl; previousSame = refl },
+      (record { queueSame = refl; previousSame = refl }, map-nobody (a .window) (stepsOf (a .steps .now)) (a .start) (a .end) (a .edges .now) (a .allow) (a .base .now) (a .set .now) (c .enum-told .given .1) (a .map .now)),
     )
 
 route-past-requires : tie.Need-route-past-requires
@@ -48,7 +49,7 @@ returns-2 c =
     let e = allow-past (a .window) (stepsOf (a .steps .now)) (a .start) (a .end) (a .edges .now) (a .allow) (a .base .now) (a .set .now) (c .before .before .before .before .before .before .before .before .before .before .before .before .before .before .before .allow .given .0 .0) (c .before .before .before .before .before .before .before .before .before .before .before .before .before .before .before .allow .given .1) in (
       allowed-shut _ (a .path .now) (c .before .before .before .before .before .before .before .before .before .route-past .last .1 .1 .1 .1 .1 .1 .1 .1 .1 .1 .1 .1 .0) (c .before .before .before .before .before .before .before .before .before .route-past .result) (c .if1 .taken)
           (subst (λ (o : Option (List ℕ)). Routed o (a .path .now) (c .before .before .before .before .before .before .before .before .before .route-past .last .1 .1 .1 .1 .1 .1 .1 .1 .1 .1 .1 .1 .0) (c .before .before .before .before .before .before .before .before .before .route-past .result)) e (c .before .before .before .before .before .before .before .before .before .route-past .ensures .0)),
-      c .before .before .before .before .before .before .before .before .before .route-past .ensures .1 .0,
+      (c .before .before .before .before .before .before .before .before .before .route-past .ensures .1 .0, map-past (a .window) (stepsOf (a .steps .now)) (a .start) (a .end) (a .edges .now) (a .allow) (a .base .now) (a .set .now) (c .before .before .before .before .before .before .before .before .before .before .before .before .before .before .before .allow .given .0 .0) (c .before .before .before .before .before .before .before .before .before .before .before .before .before .before .before .allow .given .1) (a .map .now) (c .before .before .before .before .before .before .before .before .before .route-past .last .1 .1 .1 .1 .1 .1 .1 .1 .1 .0) (c .before .before .before .before .before .before .before .before .before .route-past .ensures .1 .1)),
     )
 
 same-length-5 : tie.Need-same-length-5
@@ -69,7 +70,7 @@ returns-3 c =
     let e = allow-past (a .window) (stepsOf (a .steps .now)) (a .start) (a .end) (a .edges .now) (a .allow) (a .base .now) (a .set .now) (c .before .before .before .before .before .before .before .before .before .before .before .before .before .before .before .allow .given .0 .0) (c .before .before .before .before .before .before .before .before .before .before .before .before .before .before .before .allow .given .1) in (
       allowed-free _ (a .path .now) (c .before .before .before .before .before .before .before .before .before .route-past .last .1 .1 .1 .1 .1 .1 .1 .1 .1 .1 .1 .1 .0) (c .before .before .before .before .before .before .before .before .before .route-past .result) (c .if1 .left)
           (subst (λ (o : Option (List ℕ)). Routed o (a .path .now) (c .before .before .before .before .before .before .before .before .before .route-past .last .1 .1 .1 .1 .1 .1 .1 .1 .1 .1 .1 .1 .0) (c .before .before .before .before .before .before .before .before .before .route-past .result)) e (c .before .before .before .before .before .before .before .before .before .route-past .ensures .0)),
-      c .before .before .before .before .before .before .before .before .before .route-past .ensures .1 .0,
+      (c .before .before .before .before .before .before .before .before .before .route-past .ensures .1 .0, map-past (a .window) (stepsOf (a .steps .now)) (a .start) (a .end) (a .edges .now) (a .allow) (a .base .now) (a .set .now) (c .before .before .before .before .before .before .before .before .before .before .before .before .before .before .before .allow .given .0 .0) (c .before .before .before .before .before .before .before .before .before .before .before .before .before .before .before .allow .given .1) (a .map .now) (c .before .before .before .before .before .before .before .before .before .route-past .last .1 .1 .1 .1 .1 .1 .1 .1 .1 .0) (c .before .before .before .before .before .before .before .before .before .route-past .ensures .1 .1)),
     )
 
 pub allowed-route-spec : {M : Type 1} → statement M

@@ -1,4 +1,4 @@
--- `explore::lets_pass` meets its contract: there is a route where it has points, and the path is wiped.
+-- `explore::lets_pass` meets its contract: there is a route where it has points, the path is wiped, and the map is as the search for the route leaves it.
 use mathlib.Core.Path.{sym, _∙_}
 use Rattle.rects.specs.Windows.{centres}
 use Rattle.explore.proofs.Passing.{wiped}
@@ -28,11 +28,14 @@ returns : tie.Need-returns
 returns c =
     let w = wiped _ (centres (c .before .before .before .before .before .before .before .before .before .before .before .before .before .before .before .before .before .before .before .before .before .before .before .args .window)) _ _ _ (c .before .before .before .before .before .before .before .before .before .before .before .before .before .before .before .before .before .before .before .before .before .before .before .pre .0 .pathClear) (c .before .before .before .before .before .before .before .before .before .before .before .before .route-past .ensures .0) (c .before .before .before .before .before .before .before .before .before .before .before .before .route-past .kept .1 .1 .1 .1 .1 .1 .1 .1 .1 .1 .1 .1 .0) in (
       sym (c .before .before .before .before .before .before .before .before .before .before .before .before .route-past .ensures .0 .exists),
-      record {
-        queueKept = c .before .before .before .before .before .before .before .before .before .before .before .before .route-past .ensures .1 .0 .queueSame;
-        previousKept = c .before .before .before .before .before .before .before .before .before .before .before .before .route-past .ensures .1 .0 .previousSame;
-        pathKept = c .before .before .clear-u32 .ensures ∙ w .clear;
-      },
+      (
+        record {
+          queueKept = c .before .before .before .before .before .before .before .before .before .before .before .before .route-past .ensures .1 .0 .queueSame;
+          previousKept = c .before .before .before .before .before .before .before .before .before .before .before .before .route-past .ensures .1 .0 .previousSame;
+          pathKept = c .before .before .clear-u32 .ensures ∙ w .clear;
+        },
+        c .before .before .before .before .before .before .before .before .before .before .before .before .route-past .ensures .1 .1,
+      ),
     )
 
 pub lets-pass-spec : {M : Type 1} → statement M

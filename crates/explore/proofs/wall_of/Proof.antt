@@ -89,13 +89,13 @@ returns-3 c =
           (flat-past (a .query) (a .start) (a .end) n groups numbers (a .edges .now) (a .block-base .now) (a .allow-base .now) (stepsOf (a .steps .now)) _ (a .set .now) ∙ p .1 .1 .1)
           (flat-minimal (a .query) (a .start) (a .end) n groups numbers (a .edges .now) (a .block-base .now) (a .allow-base .now) (stepsOf (a .steps .now)) (a .set .now)
           ∙ sym (m .ensures .0) ∙ not-true (m .result) (c .if3 .taken)))
-          (m .ensures .1 .pathKept),
-      record { queueSame = m .ensures .1 .queueKept; previousSame = m .ensures .1 .previousKept },
+          (m .ensures .1 .0 .pathKept),
+      record { queueSame = m .ensures .1 .0 .queueKept; previousSame = m .ensures .1 .0 .previousKept },
     )
 
 allowed-route-requires : tie.Need-allowed-route-requires
 allowed-route-requires c κs =
-    (lent-again (c .before .before .before .before .before .before .before .before .before .before .before .before .before .before .before .before .before .before .before .before .before .before .before .before .before .before .before .before .before .before .before .pre .0) (c .before .before .before .before .before .before .before .before .before .before .before .before .before .is-minimal-block .kept .1 .1 .1 .1 .1 .1 .1 .1 .0) (c .before .before .before .before .before .before .before .before .before .before .before .before .before .is-minimal-block .ensures .1), (c .before .before .before .before .before .before .before .before .before .before .before .before .before .before .before .before .before .before .before .before .before .before .before .before .before .before .before .before .before .before .before .pre .1 .0 .allowed, c .before .before .before .before .before .before .before .before .before .before .before .before .before .before .before .before .before .before .before .before .before .before .before .before .before .before .before .before .before .before .before .pre .1 .0 .moving .named))
+    (lent-again (c .before .before .before .before .before .before .before .before .before .before .before .before .before .before .before .before .before .before .before .before .before .before .before .before .before .before .before .before .before .before .before .pre .0) (c .before .before .before .before .before .before .before .before .before .before .before .before .before .is-minimal-block .kept .1 .1 .1 .1 .1 .1 .1 .1 .0) (c .before .before .before .before .before .before .before .before .before .before .before .before .before .is-minimal-block .ensures .1 .0), (c .before .before .before .before .before .before .before .before .before .before .before .before .before .before .before .before .before .before .before .before .before .before .before .before .before .before .before .before .before .before .before .pre .1 .0 .allowed, c .before .before .before .before .before .before .before .before .before .before .before .before .before .before .before .before .before .before .before .before .before .before .before .before .before .before .before .before .before .before .before .pre .1 .0 .moving .named))
 
 enum-told : tie.Need-enum-told
 enum-told c = c .match .keys1
@@ -125,8 +125,8 @@ returns-4 c =
       λ n groups numbers list.
           eval-walled (a .query) (a .start) (a .end) n groups numbers (a .edges .now) (a .block-base .now) (a .allow-base .now) (stepsOf (a .steps .now)) (a .set .now)
           (opened _ _ _ (a .map .now) (p .1 .1 .0) (a .start) (p .0 .startBelow) (c .before .before .before .before .before .before .before .before .before .before .before .before .before .before .before .before .before .before .before .before .before .before .before .before .before .before .before .before .before .before .before .before .before .if1 .left)) (opened _ _ _ (a .map .now) (p .1 .1 .0) (a .end) (p .0 .endBelow) (c .before .before .before .before .before .before .before .before .before .before .before .before .before .before .before .before .before .before .before .before .before .before .before .before .before .before .before .before .before .before .before .if2 .left))
-          (p .1 .1 .1) (sym (m .ensures .0) ∙ not-false (m .result) (c .before .before .before .before .before .before .before .before .before .before .before .before .before .before .before .if3 .left)) (r .result) _ (ap wallAnswer (c .enum-told .given .1)) list (m .ensures .1 .pathKept) (r .ensures .0),
-      kept-restored (m .ensures .1) (r .ensures .1),
+          (p .1 .1 .1) (sym (m .ensures .0) ∙ not-false (m .result) (c .before .before .before .before .before .before .before .before .before .before .before .before .before .before .before .if3 .left)) (r .result) _ (ap wallAnswer (c .enum-told .given .1)) list (m .ensures .1 .0 .pathKept) (r .ensures .0),
+      kept-restored (m .ensures .1 .0) (r .ensures .1 .0),
     )
 
 same-length-9 : tie.Need-same-length-9
@@ -151,8 +151,8 @@ returns-5 c =
       λ n groups numbers list.
           eval-walled (a .query) (a .start) (a .end) n groups numbers (a .edges .now) (a .block-base .now) (a .allow-base .now) (stepsOf (a .steps .now)) (a .set .now)
           (opened _ _ _ (a .map .now) (p .1 .1 .0) (a .start) (p .0 .startBelow) (c .before .before .before .before .before .before .before .before .before .before .before .before .before .before .before .before .before .before .before .before .before .before .before .before .before .before .before .before .before .before .before .before .before .before .if1 .left)) (opened _ _ _ (a .map .now) (p .1 .1 .0) (a .end) (p .0 .endBelow) (c .before .before .before .before .before .before .before .before .before .before .before .before .before .before .before .before .before .before .before .before .before .before .before .before .before .before .before .before .before .before .before .before .if2 .left))
-          (p .1 .1 .1) (sym (m .ensures .0) ∙ not-false (m .result) (c .before .before .before .before .before .before .before .before .before .before .before .before .before .before .before .before .if3 .left)) (r .result) _ (ap wallAnswer (c .before .k .given .1)) list (m .ensures .1 .pathKept) (r .ensures .0),
-      kept-restored (m .ensures .1) (r .ensures .1),
+          (p .1 .1 .1) (sym (m .ensures .0) ∙ not-false (m .result) (c .before .before .before .before .before .before .before .before .before .before .before .before .before .before .before .before .if3 .left)) (r .result) _ (ap wallAnswer (c .before .k .given .1)) list (m .ensures .1 .0 .pathKept) (r .ensures .0),
+      kept-restored (m .ensures .1 .0) (r .ensures .1 .0),
     )
 
 pub wall-of-spec : {M : Type 1} → statement M

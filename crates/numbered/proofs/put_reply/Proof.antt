@@ -3,7 +3,7 @@ use mathlib.Core.Path.{sym, _∙_, ap}
 use native.Mathlib.Omega.{arith}
 use Rattle.model.specs.Answers.{replyOf}
 use Rattle.model.specs.declared.Answer.{Answer}
-use Rattle.numbered.specs.Numbers.{leftIn}
+use Rattle.numbered.specs.Lent.{leftIn}
 use Rattle.numbered.proofs.Fifty.{left-short, left-laid}
 use borrow.Author.Needs.{needs}
 use Rattle.numbered.proofs.put_reply.Statement.{statement}

@@ -29,7 +29,7 @@ same-length-4 c = c .before .before .before .before .before .before .before .bef
 returns : tie.Need-returns
 returns c =
     let r = c .before .before .before .before .before .before .before .before .before .before .allowed-route in
-    (shut-is (r .ensures .0) (c .enum-told .given .1), record { queueKept = r .ensures .1 .queueSame; previousKept = r .ensures .1 .previousSame; pathKept = shut-kept (r .ensures .0) (c .enum-told .given .1) })
+    (shut-is (r .ensures .0) (c .enum-told .given .1), record { queueKept = r .ensures .1 .0 .queueSame; previousKept = r .ensures .1 .0 .previousSame; pathKept = shut-kept (r .ensures .0) (c .enum-told .given .1) })
 
 clear-u32-requires : tie.Need-clear-u32-requires
 clear-u32-requires c κs = free-wiped (c .before .before .before .before .before .before .before .before .before .before .before .before .allowed-route .ensures .0) (c .before .before .k .given .0 .0) (c .before .before .k .given .1) (centres (c .before .before .before .before .before .before .before .before .before .before .before .before .before .before .before .before .before .before .before .before .before .before .before .args .window)) (c .before .before .before .before .before .before .before .before .before .before .before .before .before .before .before .before .before .before .before .before .before .before .before .pre .0 .pathClear) (c .before .before .before .before .before .before .before .before .before .before .before .before .allowed-route .kept .1 .1 .1 .1 .1 .1 .1 .1 .1 .1 .1 .0) .room
@@ -51,7 +51,7 @@ returns-2 c =
     let r = c .before .before .before .before .before .before .before .before .before .before .before .before .before .before .before .allowed-route in
     let w = free-wiped (r .ensures .0) (c .before .before .before .before .before .k .given .0 .0) (c .before .before .before .before .before .k .given .1) (centres (c .before .before .before .before .before .before .before .before .before .before .before .before .before .before .before .before .before .before .before .before .before .before .before .before .before .before .args .window)) (c .before .before .before .before .before .before .before .before .before .before .before .before .before .before .before .before .before .before .before .before .before .before .before .before .before .before .pre .0 .pathClear) (r .kept .1 .1 .1 .1 .1 .1 .1 .1 .1 .1 .1 .0) in (
       free-is (r .ensures .0) (c .before .before .before .before .before .k .given .0 .0) (c .before .before .before .before .before .k .given .1),
-      record { queueKept = r .ensures .1 .queueSame; previousKept = r .ensures .1 .previousSame; pathKept = c .before .before .clear-u32 .ensures ∙ w .clear },
+      record { queueKept = r .ensures .1 .0 .queueSame; previousKept = r .ensures .1 .0 .previousSame; pathKept = c .before .before .clear-u32 .ensures ∙ w .clear },
     )
 
 pub lets-allowed-spec : {M : Type 1} → statement M

@@ -27,10 +27,10 @@ returns : tie.Need-returns
 returns c =
     let a = c .before .before .before .before .before .before .before .before .before .before .before .before .before .before .before .before .before .before .before .before .before .before .before .args in
     let m = c .before .before .before .before .before .before .before .before .before .is-minimal-block in
-    (shut-spare (a .query .window) (stepsOf (a .steps .now)) (a .start) (a .end) (moverIn (a .query .window) (a .edges .now) (a .query .block) (a .block-base .now)) (allowIn (a .query .window) (a .edges .now) (a .query .allow) (a .allow-base .now)) (a .set .now) (m .result) (m .ensures .0) (c .if1 .taken), m .ensures .1)
+    (shut-spare (a .query .window) (stepsOf (a .steps .now)) (a .start) (a .end) (moverIn (a .query .window) (a .edges .now) (a .query .block) (a .block-base .now)) (allowIn (a .query .window) (a .edges .now) (a .query .allow) (a .allow-base .now)) (a .set .now) (m .result) (m .ensures .0) (c .if1 .taken), m .ensures .1 .0)
 
 lets-allowed-requires : tie.Need-lets-allowed-requires
-lets-allowed-requires c κs = (lent-again (c .before .before .before .before .before .before .before .before .before .before .before .before .before .before .before .before .before .before .before .before .before .before .before .before .before .before .before .pre .0) (c .before .before .before .before .before .before .before .before .before .before .before .before .before .is-minimal-block .kept .1 .1 .1 .1 .1 .1 .1 .1 .0) (c .before .before .before .before .before .before .before .before .before .before .before .before .before .is-minimal-block .ensures .1), (c .before .before .before .before .before .before .before .before .before .before .before .before .before .before .before .before .before .before .before .before .before .before .before .before .before .before .before .pre .1 .allowed, c .before .before .before .before .before .before .before .before .before .before .before .before .before .before .before .before .before .before .before .before .before .before .before .before .before .before .before .pre .1 .moving .named))
+lets-allowed-requires c κs = (lent-again (c .before .before .before .before .before .before .before .before .before .before .before .before .before .before .before .before .before .before .before .before .before .before .before .before .before .before .before .pre .0) (c .before .before .before .before .before .before .before .before .before .before .before .before .before .is-minimal-block .kept .1 .1 .1 .1 .1 .1 .1 .1 .0) (c .before .before .before .before .before .before .before .before .before .before .before .before .before .is-minimal-block .ensures .1 .0), (c .before .before .before .before .before .before .before .before .before .before .before .before .before .before .before .before .before .before .before .before .before .before .before .before .before .before .before .pre .1 .allowed, c .before .before .before .before .before .before .before .before .before .before .before .before .before .before .before .before .before .before .before .before .before .before .before .before .before .before .before .pre .1 .moving .named))
 
 same-length-5 : tie.Need-same-length-5
 same-length-5 c = c .before .before .before .before .before .before .before .before .before .lets-allowed .kept .1 .1 .1 .1 .1 .1 .1 .1 .0 ∙ c .before .before .before .before .before .before .before .before .before .before .before .before .before .before .before .before .before .before .before .before .before .before .before .is-minimal-block .kept .1 .1 .1 .1 .1 .1 .1 .1 .0
@@ -49,7 +49,7 @@ returns-2 c =
     let a = c .before .before .before .before .before .before .before .before .before .before .before .before .before .before .before .before .before .before .before .before .before .before .before .before .before .before .before .before .before .before .before .before .before .before .before .before .before .args in
     let m = c .before .before .before .before .before .before .before .before .before .before .before .before .before .before .before .before .before .before .before .before .before .before .before .is-minimal-block in
     let r = c .before .before .before .before .before .before .before .before .before .lets-allowed in
-    (shut-shut (a .query .window) (stepsOf (a .steps .now)) (a .start) (a .end) (moverIn (a .query .window) (a .edges .now) (a .query .block) (a .block-base .now)) (allowIn (a .query .window) (a .edges .now) (a .query .allow) (a .allow-base .now)) (a .set .now) (m .result) (m .ensures .0) (c .before .before .before .before .before .before .before .before .before .before .before .before .before .before .if1 .left) (r .result) (r .ensures .0) (c .if2 .taken), kept-on (m .ensures .1) (r .ensures .1))
+    (shut-shut (a .query .window) (stepsOf (a .steps .now)) (a .start) (a .end) (moverIn (a .query .window) (a .edges .now) (a .query .block) (a .block-base .now)) (allowIn (a .query .window) (a .edges .now) (a .query .allow) (a .allow-base .now)) (a .set .now) (m .result) (m .ensures .0) (c .before .before .before .before .before .before .before .before .before .before .before .before .before .before .if1 .left) (r .result) (r .ensures .0) (c .if2 .taken), kept-on (m .ensures .1 .0) (r .ensures .1))
 
 same-length-9 : tie.Need-same-length-9
 same-length-9 c = c .before .before .before .before .before .before .before .before .before .lets-allowed .kept .1 .1 .1 .1 .1 .1 .1 .1 .0 ∙ c .before .before .before .before .before .before .before .before .before .before .before .before .before .before .before .before .before .before .before .before .before .before .before .is-minimal-block .kept .1 .1 .1 .1 .1 .1 .1 .1 .0
@@ -68,7 +68,7 @@ returns-3 c =
     let a = c .before .before .before .before .before .before .before .before .before .before .before .before .before .before .before .before .before .before .before .before .before .before .before .before .before .before .before .before .before .before .before .before .before .before .before .before .before .args in
     let m = c .before .before .before .before .before .before .before .before .before .before .before .before .before .before .before .before .before .before .before .before .before .before .before .is-minimal-block in
     let r = c .before .before .before .before .before .before .before .before .before .lets-allowed in
-    (shut-wall (a .query .window) (stepsOf (a .steps .now)) (a .start) (a .end) (moverIn (a .query .window) (a .edges .now) (a .query .block) (a .block-base .now)) (allowIn (a .query .window) (a .edges .now) (a .query .allow) (a .allow-base .now)) (a .set .now) (m .result) (m .ensures .0) (c .before .before .before .before .before .before .before .before .before .before .before .before .before .before .if1 .left) (r .result) (r .ensures .0) (c .if2 .left), kept-on (m .ensures .1) (r .ensures .1))
+    (shut-wall (a .query .window) (stepsOf (a .steps .now)) (a .start) (a .end) (moverIn (a .query .window) (a .edges .now) (a .query .block) (a .block-base .now)) (allowIn (a .query .window) (a .edges .now) (a .query .allow) (a .allow-base .now)) (a .set .now) (m .result) (m .ensures .0) (c .before .before .before .before .before .before .before .before .before .before .before .before .before .before .if1 .left) (r .result) (r .ensures .0) (c .if2 .left), kept-on (m .ensures .1 .0) (r .ensures .1))
 
 pub shut-verdict-spec : {M : Type 1} → statement M
 shut-verdict-spec =

@@ -14,7 +14,7 @@ use Rattle.layouts.specs.Inputs.{Inputs}
 use Rattle.calls.specs.Areas.{Store, storeIn}
 use Rattle.calls.specs.Calls.{readChecks}
 use Rattle.read.proofs.Outcome.{stands-kept}
-use Rattle.numbered.specs.Numbers.{recordIn}
+use Rattle.numbered.specs.Lent.{recordIn}
 use Rattle.numbered.proofs.Fifty.{lent-at-most}
 use Rattle.numbered.proofs.Left.{read-place, place-refused, place-accepted}
 use Rattle.walls_c.proofs.read_on.Statement.{statement}

@@ -10,6 +10,9 @@ number-requires c κs = search needs
 enum-known-n : tie.Need-enum-known-n
 enum-known-n c = search needs
 
+refuse-rest-requires : tie.Need-refuse-rest-requires
+refuse-rest-requires c κs = search needs
+
 returns : tie.Need-returns
 returns c = search needs
 
@@ -19,11 +22,17 @@ sub-if1 c = number-inside _ _ _ _ _ _ (c .before .n .given .1) (c .before .befor
 cast-if1 : tie.Need-cast-if1
 cast-if1 c = search needs
 
+refuse-rest-requires-2 : tie.Need-refuse-rest-requires-2
+refuse-rest-requires-2 c κs = search needs
+
 returns-2 : tie.Need-returns-2
 returns-2 c = search needs
 
 shared-slice-read-if2 : tie.Need-shared-slice-read-if2
 shared-slice-read-if2 c = search needs
+
+refuse-rest-requires-3 : tie.Need-refuse-rest-requires-3
+refuse-rest-requires-3 c κs = search needs
 
 returns-3 : tie.Need-returns-3
 returns-3 c = search needs
@@ -37,17 +46,20 @@ cast-to c = search needs
 add-to : tie.Need-add-to
 add-to c = search needs
 
-sub-reply : tie.Need-sub-reply
-sub-reply c = search needs
+cast-t9 : tie.Need-cast-t9
+cast-t9 c = search needs
 
-part-reply-start : tie.Need-part-reply-start
-part-reply-start c = search needs
+sub-write-reply : tie.Need-sub-write-reply
+sub-write-reply c = search needs
 
-part-reply-end : tie.Need-part-reply-end
-part-reply-end c = search needs
+part-write-reply-start : tie.Need-part-write-reply-start
+part-write-reply-start c = search needs
 
-reply-requires : tie.Need-reply-requires
-reply-requires c κs = search needs
+part-write-reply-end : tie.Need-part-write-reply-end
+part-write-reply-end c = search needs
+
+write-reply-requires : tie.Need-write-reply-requires
+write-reply-requires c κs = search needs
 
 returns-4 : tie.Need-returns-4
 returns-4 c = search needs
@@ -58,17 +70,21 @@ reply-at-spec =
     (tie.spec
     number-requires
     enum-known-n
+    refuse-rest-requires
     returns
     sub-if1
     cast-if1
+    refuse-rest-requires-2
     returns-2
     shared-slice-read-if2
+    refuse-rest-requires-3
     returns-3
     add-from
     cast-to
     add-to
-    sub-reply
-    part-reply-start
-    part-reply-end
-    reply-requires
+    cast-t9
+    sub-write-reply
+    part-write-reply-start
+    part-write-reply-end
+    write-reply-requires
     returns-4)

@@ -1,0 +1,1 @@
+// What the C functions promise together: definitions and proofs alone.
