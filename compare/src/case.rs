@@ -1,4 +1,4 @@
-//! What a search is given, and what it shows after a call. Plain numbers, in document 01's order.
+//! What a search is given, and what it shows after a call. Plain numbers, in the rules' order.
 
 /// Left, top, right, bottom; right and bottom are exclusive.
 #[derive(Debug, Copy, Clone, Eq, PartialEq, Hash)]
@@ -129,7 +129,7 @@ impl Case {
     }
 }
 
-/// Why a search stopped, with document 01's numbers.
+/// Why a search stopped, with the numbers of docs/RULES.md, 6.7.
 #[derive(Debug, Copy, Clone, Eq, PartialEq, Hash)]
 pub enum Reason {
     Running = 1,

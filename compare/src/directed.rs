@@ -1,4 +1,4 @@
-//! Cases made by hand: document 01's input P with its marked variants, corners of the domain, and
+//! Cases made by hand: input P with its marked variants, corners of what is accepted, and
 //! searches that are set to hold what no begin leaves.
 
 use crate::case::{Bounds, Case, Layout, List, Placement, Reason, Rect, Snapshot};
@@ -7,7 +7,7 @@ use crate::run::Baselines;
 
 const POINT: Bounds = Bounds::new(0, 0, 0, 0);
 
-/// Input P of document 01.
+/// Input P (docs/RULES.md, 9.7).
 pub fn p() -> Case {
     Case {
         map: (1, 1),
@@ -73,7 +73,7 @@ pub fn items() -> Vec<Item> {
     items
 }
 
-/// P and the variants that document 01 marks.
+/// P and its marked variants (docs/RULES.md, 9.8).
 pub fn marked() -> Vec<Item> {
     let empty = Case {
         groups: Vec::new(),

@@ -1,8 +1,9 @@
-//! Which calls document 01 accepts: its checks by number, as far as they look at inputs and record.
+//! Which calls are accepted: the checks of docs/RULES.md, 8, by number, as far as they look at inputs
+//! and record.
 //!
-//! The originals make other checks (`validate_query`, `WallSearch::new`), so these are the paper's
-//! and not the Rust's. Left out: 6 and 13, which look at areas that the Rust does not have, and 7 to
-//! 9, which `run` takes from the original `prepare_mover` and `route`.
+//! The originals make other checks (`validate_query`, `WallSearch::new`), so these are of our own.
+//! Left out: 6 and 13, which look at areas that the Rust does not have, and 7 to 9, which `run` takes
+//! from the original `prepare_mover` and `route`.
 
 use crate::case::{Bounds, Case, Reason, Rect, Snapshot};
 

@@ -1,4 +1,4 @@
-//! Small random searches, from a seed alone. Each keeps within document 01's drive sheet (at most 64
+//! Small random searches, from a seed alone. Each keeps within the drive sheet (at most 64
 //! cells, 256 centres, 12 places and 500 states), and all but the mazes, which are handed their
 //! baselines, can be written as one.
 
@@ -72,7 +72,7 @@ impl Generator {
         }
     }
 
-    /// The next item whose inputs pass document 01's checks. Prepare may still refuse it with 7 to 9.
+    /// The next item whose inputs pass the checks. Prepare may still refuse it with 7 to 9.
     pub fn item(&mut self) -> Item {
         const KINDS: [Kind; 8] = [
             ("barrier", barrier),

@@ -4,7 +4,7 @@
 //! line appended to the latter. That line names the module `probe` (its text is
 //! `src/walls/search/probe.rs`), which sets and reads the search's private fields. `grid` holds
 //! pieces of the original `lib.rs`. Everything else here is the judge's own: [`case`] says what a
-//! search is given, [`domain`] which calls document 01 accepts, [`run`] makes the calls, and
+//! search is given, [`domain`] which calls are accepted, [`run`] makes the calls, and
 //! [`directed`], [`generate`] and [`list`] make the searches whose answers [`text`] writes.
 
 pub mod case;

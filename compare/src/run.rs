@@ -6,8 +6,8 @@ use crate::case::{Case, Mover, Snapshot};
 use crate::domain;
 use crate::walls::search::{WallSearch, probe};
 
-/// The baseline of one mover, true where it is kept off; or the refusal. 1 to 5 are document 01's
-/// checks, 7 to 9 come from the original `prepare_mover`.
+/// The baseline of one mover, true where it is kept off; or the refusal. 1 to 5 are the
+/// checks of [`crate::domain`], 7 to 9 come from the original `prepare_mover`.
 pub fn prepare(case: &Case, mover: Mover) -> Result<Vec<bool>, u32> {
     let bounds = case.bounds(mover).expect("a mover that the case has");
     domain::prepare(case, bounds)?;

@@ -1,4 +1,4 @@
-//! The drive sheet of document 01, read and answered with the original search.
+//! The drive sheet (docs/RULES.md, 9), read and answered with the original search.
 //!
 //! A text is taken apart by looking for the spelling of each line in turn; a number is read and then
 //! spelled again, so that leading zeros, a plus sign and `-0` are no spelling.

@@ -1,5 +1,5 @@
-//! The searches that the program `replay` makes and the answers that it must print. README.md says
-//! how both are written.
+//! The searches that the program `program_replay` makes and the answers that it must print. README.md
+//! says how both are written.
 
 use std::fmt::Write;
 
@@ -416,7 +416,7 @@ fn first_wrong(case: &Case) -> usize {
         .expect("a refused placement")
 }
 
-/// The record, and the digest of the areas and of its rows, each laid out as document 01 says.
+/// The record, and the digest of the areas and of its rows, each laid out as docs/RULES.md, 6, says.
 fn record(case: &Case, held: &Snapshot) -> String {
     let places = case.placements.len();
     let mut lists = vec![0; 6 * places];
@@ -463,7 +463,7 @@ fn digest(start: u32, numbers: impl IntoIterator<Item = u32>) -> u32 {
     })
 }
 
-/// Document 01's judgement, from the original's own functions: the answer, then the first verdict that
+/// The judgement, from the original's own functions: the answer, then the first verdict that
 /// holds (Slots 1 to Wall 7) and the ground left.
 fn judged(search: &Search, set: &[u32]) -> String {
     let (case, original) = (search.case(), search.original());

@@ -1,4 +1,4 @@
-//! Where `WallSearch::new` takes other inputs than document 01, each at its smallest difference, and
+//! Where `WallSearch::new` takes other inputs than the calls do, each at its smallest difference, and
 //! what no run of the original shows.
 
 use judge::generate::Generator;
@@ -180,7 +180,7 @@ fn new_drops_placements_that_cover_an_end() {
     assert_eq!(made(&allowing), [(1, 0)]);
 }
 
-/// Document 01 evaluates a set that covers an end: it counts and nothing follows.
+/// A set that covers an end is evaluated: it counts and nothing follows.
 #[test]
 fn a_covered_end_is_an_evaluation() {
     let mut case = directed::p();

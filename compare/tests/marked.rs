@@ -1,4 +1,4 @@
-//! The answers that document 01 marks for input P and its variants.
+//! The marked answers for input P and its variants (docs/RULES.md, 9.8).
 
 use judge::Reason::{self, Exhausted, ResultLimit, Running, StateLimit};
 use judge::directed::{corners, marked, p};
@@ -46,7 +46,7 @@ fn p_and_its_variants() {
     );
 }
 
-/// The original judges no selections; the parts that document 01 names are at hand.
+/// The original judges no selections; the parts of which a verdict is made are at hand.
 #[test]
 fn selections_of_p() {
     let search = Search::begin(&p()).expect("P");

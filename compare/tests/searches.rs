@@ -95,7 +95,7 @@ fn a_snapshot_set_again_goes_on_alike() {
     }
 }
 
-/// A wall, by the words of demand 3 alone: chains are looked for by spreading from the start.
+/// A wall, by the words of docs/RULES.md, 3.6, alone: chains are looked for by spreading from the start.
 fn is_wall(case: &Case, baselines: &Baselines, set: &[u32]) -> bool {
     let within = |set: &[u32]| {
         set.iter().all(|&member| {

@@ -1,5 +1,5 @@
-//! The stored searches and answers of the program `replay` are those that this crate writes, and hold
-//! what they are said to hold.
+//! The stored searches and answers of the program `program_replay` are those that this crate writes,
+//! and hold what they are said to hold.
 
 use std::collections::BTreeSet;
 use std::path::PathBuf;
@@ -7,9 +7,15 @@ use std::path::PathBuf;
 use judge::{Case, Search, maps, stored};
 
 fn file(name: &str) -> String {
-    let path: PathBuf = [env!("CARGO_MANIFEST_DIR"), "..", "crates", "replay", name]
-        .iter()
-        .collect();
+    let path: PathBuf = [
+        env!("CARGO_MANIFEST_DIR"),
+        "..",
+        "crates",
+        "program_replay",
+        name,
+    ]
+    .iter()
+    .collect();
     std::fs::read_to_string(path).expect("a stored file")
 }
 
@@ -17,10 +23,13 @@ fn file(name: &str) -> String {
 fn the_files_are_those_written() {
     let list = stored::searches();
     assert!(list.len() >= 1_000);
-    assert!(file("stdin") == stored::input(&list), "crates/replay/stdin");
+    assert!(
+        file("stdin") == stored::input(&list),
+        "crates/program_replay/stdin"
+    );
     assert!(
         file("stdout") == stored::output(&list),
-        "crates/replay/stdout"
+        "crates/program_replay/stdout"
     );
 }
 

@@ -258,7 +258,7 @@ fn no_layout_and_no_selection() {
     }
 }
 
-/// Also where several things are wrong at once, the order is that of the paper.
+/// Also where several things are wrong at once, the order is that of docs/RULES.md, 8.1.
 #[test]
 fn the_first_of_several() {
     let all = |plan: &mut Plan| {

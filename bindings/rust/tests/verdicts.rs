@@ -51,7 +51,7 @@ fn with_an_allowed_mover_that_is_shut_out() {
 }
 
 #[test]
-fn verdicts_are_written_as_the_paper_has_them() {
+fn verdicts_are_written_as_the_rules_have_them() {
     let names = [
         (Verdict::Slots, "Slots"),
         (Verdict::EndCovered, "EndCovered"),

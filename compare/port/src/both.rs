@@ -68,7 +68,7 @@ pub fn prepare(terrain: &Terrain, query: &Query, mover: [u32; 4], baseline: &mut
     let (number, marked) = match judge::prepare(&case, Mover::Block) {
         Ok(marked) => (0, marked),
         Err(number) if number >= 7 => (number, vec![false; case.centres()]),
-        Err(number) => return Err(format!("prepare: the two readings of 01 differ: accepted, and {number}")),
+        Err(number) => return Err(format!("prepare: the two readings of the rules differ: accepted, and {number}")),
     };
     same("prepare's answer", &number, &answer)?;
     let mut expected = before;
@@ -108,7 +108,7 @@ pub fn begin(inputs: &Inputs, store: &mut Store, work: &mut Work) -> Result<Resu
         return Ok(Err(number));
     }
     let search = Search::begin_on(&inputs.case(), &inputs.baselines())
-        .map_err(|number| format!("begin: the two readings of 01 differ: accepted, and {number}"))?;
+        .map_err(|number| format!("begin: the two readings of the rules differ: accepted, and {number}"))?;
     same_store("begin", &before.image(&search.snapshot(), inputs.needs()), store)?;
     same_work("begin", &work_before.cleared(&inputs.query), work)?;
     Ok(Ok(search))
@@ -117,7 +117,7 @@ pub fn begin(inputs: &Inputs, store: &mut Store, work: &mut Work) -> Result<Resu
 /// The original's search that holds what an accepted record says.
 pub fn original(inputs: &Inputs, store: &Store) -> Result<Search, Difference> {
     Search::set_on(&inputs.case(), &inputs.baselines(), &store.held(inputs))
-        .map_err(|number| format!("the two readings of 01 differ: accepted, and {number}"))
+        .map_err(|number| format!("the two readings of the rules differ: accepted, and {number}"))
 }
 
 /// Steps by `n`; `search` is the original's, made from the record where there is none at hand.

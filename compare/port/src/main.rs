@@ -103,7 +103,7 @@ fn small(seed: u64, searches: u64, counts: &mut Counts, progress: &dyn Fn(&str))
     Ok(())
 }
 
-/// Document 01's judged selections of input P.
+/// The judged selections of input P (docs/RULES.md, 9.8).
 fn judged() -> Result<(), String> {
     let case = directed::p();
     let inputs = Inputs::of(&case, &vec![false; case.centres()], None);

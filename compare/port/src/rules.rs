@@ -1,4 +1,4 @@
-//! Document 01's refusals and verdicts, read from the paper alone: this module shares no code with the judge's `domain`.
+//! The refusals and verdicts of docs/RULES.md, 7 and 8, read from the rules alone: this module shares no code with the judge's `domain`.
 //! Routes and covers (7 to 9, and the verdicts' parts) are the original's.
 
 use judge::walls::search::{WallSearch, probe};

@@ -1,4 +1,4 @@
-//! Compares `route`, as proved and compiled, with the rule of document 01 computed another way: distances layer by layer,
+//! Compares `route`, as proved and compiled, with its rule (docs/RULES.md, 2.4) computed another way: distances layer by layer,
 //! and in each layer the first discoverer by rank. No queue is kept here, and no predecessor is written before its layer is whole.
 //!
 //! What is looked at for every map: whether there is a route, each of its points, that queue and predecessors are zero

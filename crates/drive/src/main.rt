@@ -1,10 +1,13 @@
 // Answers the drive sheet on standard input.
+use input_arrival::Arrival;
+use sheet_form::MOST_BYTES;
+use sheet_write::ENOUGH;
 
 // One byte more than a sheet may have: a text that fills the area is too long.
 fn main() {
-    let mut text = [0u8; 8193];
-    let mut out = [0u8; 262144];
-    let input = input::read_all(libc::STDIN_FILENO, &mut text);
-    let n = reply::reply(input, &text, &mut out);
+    let mut text = [0u8; MOST_BYTES + 1];
+    let mut out = [0u8; ENOUGH];
+    let input: Arrival = input_read::read_all(libc::STDIN_FILENO, &mut text);
+    let n = sheet_reply::reply(input, &text, &mut out);
     io::write_all(libc::STDOUT_FILENO, &out[..n]);
 }

@@ -6,20 +6,21 @@ use mathlib.Core.Bool.{true}
 use mathlib.Core.Option.{Option, none, some}
 use mathlib.Core.List.{List}
 use lib.ListN.{length}
-use Rattle.model.specs.Answers.{Said, first}
-use Rattle.model.specs.declared.Limits.{Limits}
-use Rattle.rects.specs.Windows.{positionOf}
-use Rattle.routes.specs.Edges.{Step, eachOnce}
-use Rattle.layouts.specs.Inputs.{Inputs, boardOf}
-use Rattle.layouts.proofs.Laid.{laid-board}
-use Rattle.search.specs.State.{State}
-use Rattle.search.specs.Frames.{step, begun}
-use Rattle.search.proofs.Steps.{step-add}
-use Rattle.search.proofs.Exhaustive.{Exact, search-exact}
-use Rattle.search.proofs.Formed.{Good, begun-good}
-use Rattle.calls.specs.Areas.{Work, Store, stateOf, recordOf, storeOf}
-use Rattle.calls.specs.Calls.{beginCall, planOf, stepChecks, stepCall}
-use Rattle.calls.proofs.StepLaws.{Fair, keeps, step-passed, left, step-checks, step-is, left-reads, begin-is, begin-accepted}
+use Rattle.base_model.specs.Answers.{Said, first}
+use Rattle.base_model.specs.declared.Limits.{Limits}
+use Rattle.ground_rects.specs.Windows.{positionOf}
+use Rattle.rule_routes.specs.Edges.{Step, eachOnce}
+use Rattle.rule_layouts.specs.Inputs.{Inputs, boardOf}
+use Rattle.rule_layouts.proofs.Regular.{regular-board}
+use Rattle.rule_search.specs.State.{State}
+use Rattle.rule_search.specs.Frames.{step, begun}
+use Rattle.rule_search.specs.Formed.{Good}
+use Rattle.rule_search.proofs.Steps.{step-add}
+use Rattle.rule_search.proofs.Exhaustive.{Exact, search-exact}
+use Rattle.rule_search.proofs.Formed.{begun-good}
+use Rattle.rule_calls.specs.Areas.{Work, Store, stateOf, recordOf, storeOf}
+use Rattle.rule_calls.specs.Calls.{beginCall, planOf, stepChecks, stepCall}
+use Rattle.rule_calls.proofs.StepLaws.{Fair, keeps, step-passed, left, step-checks, step-is, left-reads, begin-is, begin-accepted}
 use Rattle.promise.specs.Promise.{Call, stepping, reading, Held, leaves, after, Faithful, answerTo, inputsIn, limitsIn}
 
 module _ (steps : List Step) (once : eachOnce steps ≡ true) (i : Inputs) (l : Limits) where
@@ -44,7 +45,7 @@ module _ (steps : List Step) (once : eachOnce steps ≡ true) (i : Inputs) (l : 
     unfolding planOf
     exact n =
         search-exact (boardOf steps i) (positionOf (i .query .window)) (planOf steps i l) (record { evaluates = λ s. refl })
-        (laid-board steps i once (fair .startIn) (fair .endIn)) n
+        (regular-board steps i once (fair .startIn) (fair .endIn)) n
 
     -- ---- one call
     stepped : (h : Held) (n : ℕ) (work : Work) → first (stepChecks i l (h .rec) work (h .store)) ≡ none → Carried h

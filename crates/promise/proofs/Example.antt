@@ -4,16 +4,16 @@ use mathlib.Core.Path.{_≡_, refl, sym}
 use mathlib.Core.Logic.{_↔_}
 use mathlib.Core.Option.{Option, none, some, Option·none-ne-some}
 use mathlib.Core.List.{List, [], _∷_, map}
-use Rattle.laws.specs.Lists.{below}
-use Rattle.model.specs.Answers.{Said, refusal}
-use Rattle.model.specs.declared.Allow.the-variants.{Bounded}
-use Rattle.model.specs.declared.Limits.{Limits}
-use Rattle.routes.specs.Edges.{eightSteps}
-use Rattle.routes.proofs.StepLaws.{eight-once}
-use Rattle.layouts.specs.Inputs.{Inputs, exchanged}
-use Rattle.calls.specs.Calls.{beginCall, readCall}
-use Rattle.calls.proofs.Computing.{computing}
-use Rattle.calls.proofs.Drive.{at, box, bounds, plain, limits, workFor, storeFor, still0, onOpenCell, inputsOf, driving}
+use Rattle.base_laws.specs.Lists.{below}
+use Rattle.base_model.specs.Answers.{Said, refusal}
+use Rattle.base_model.specs.declared.Allow.the-variants.{Bounded}
+use Rattle.base_model.specs.declared.Limits.{Limits}
+use Rattle.rule_routes.specs.Edges.{eightSteps}
+use Rattle.rule_routes.proofs.StepLaws.{eight-once}
+use Rattle.rule_layouts.specs.Inputs.{Inputs, exchanged}
+use Rattle.rule_calls.specs.Calls.{beginCall, readCall}
+use Rattle.rule_calls.proofs.Computing.{computing}
+use Rattle.rule_calls.proofs.Drive.{at, box, bounds, plain, limits, workFor, storeFor, still0, onOpenCell, inputsOf, driving}
 use Rattle.promise.specs.Promise.{
   Call,
   stepping,

@@ -1,5 +1,5 @@
 -- The theorem of specs/Promise. What every call leaves is a begun search laid out (Carried); its layouts, read back, are walls, each once and each with its
--- route, and all the walls where it stopped Exhausted (search's Exhaustive). A wall is a wall from end to start too (layouts' SameWalls).
+-- route, and all the walls where it stopped Exhausted (rule_search's Exhaustive). A wall is a wall from end to start too (rule_layouts' SameWalls).
 use Prim.Native.Nat.{ℕ, _-_, _*_, _<_}
 use mathlib.Core.Path.{_≡_, refl, sym, _∙_, ap, subst}
 use mathlib.Core.Bool.{true}
@@ -7,28 +7,28 @@ use mathlib.Core.Logic.{_↔_}
 use mathlib.Core.Option.{Option, none, some, Option·some-injective}
 use mathlib.Core.List.{List, [], _∷_, _++_, map, List·Memᴰ, Memᴰ·map, Memᴰ·of-map, Memᴰ·cast}
 use lib.ListN.{length, getD, drop}
-use Rattle.laws.specs.Lists.{flat}
-use Rattle.laws.specs.Fill.{zeros}
-use Rattle.laws.proofs.Members.{getD-member}
-use Rattle.model.specs.declared.Limits.{Limits}
-use Rattle.rects.specs.Windows.{positionOf}
-use Rattle.routes.specs.Edges.{Step, eachOnce}
-use Rattle.routes.proofs.RouteTheorem.{route-is-road}
-use Rattle.layouts.specs.Boards.{Mover, Board, leavesOpen, routePast}
-use Rattle.layouts.specs.Explore.{allowedRoute}
-use Rattle.layouts.specs.Inputs.{Inputs, exchanged, boardOf}
-use Rattle.layouts.specs.Walls.{IsWall}
-use Rattle.layouts.proofs.Laid.{laid-board, board-exchanged}
-use Rattle.layouts.proofs.SameWalls.{wall-turned}
-use Rattle.search.specs.State.{Exhausted, Layout, State}
-use Rattle.search.proofs.Found.{sets, members-of}
-use Rattle.search.proofs.Formed.{Good}
-use Rattle.calls.specs.Areas.{Store, laid, numberOf, reasonOf, row, rowOf, numbers, pointsOf, pointsLength, recordOf, storeOf}
-use Rattle.calls.specs.Calls.{planOf, ReadOut}
-use Rattle.calls.proofs.Back.{laid-front, row-back, points-back, noLayout, routeNumbers, reason-back}
-use Rattle.calls.proofs.Accepted.{good-room}
-use Rattle.calls.proofs.StepLaws.{Fair}
-use Rattle.calls.proofs.Reading.{read-checks, read-is, read-among}
+use Rattle.base_laws.specs.Lists.{flat}
+use Rattle.base_laws.specs.Fill.{zeros}
+use Rattle.base_laws.proofs.Members.{getD-member}
+use Rattle.base_model.specs.declared.Limits.{Limits}
+use Rattle.ground_rects.specs.Windows.{positionOf}
+use Rattle.rule_routes.specs.Edges.{Step, eachOnce}
+use Rattle.rule_routes.proofs.RouteTheorem.{route-is-road}
+use Rattle.rule_layouts.specs.Boards.{Mover, Board, leavesOpen, routePast}
+use Rattle.rule_layouts.specs.Explore.{allowedRoute}
+use Rattle.rule_layouts.specs.Inputs.{Inputs, exchanged, boardOf}
+use Rattle.rule_layouts.specs.Walls.{IsWall}
+use Rattle.rule_layouts.proofs.SameWalls.{wall-turned}
+use Rattle.rule_layouts.proofs.Regular.{regular-board, board-exchanged}
+use Rattle.rule_search.specs.State.{Exhausted, Layout, State}
+use Rattle.rule_search.specs.Formed.{Good}
+use Rattle.rule_search.proofs.Found.{sets, members-of}
+use Rattle.rule_calls.specs.Areas.{Store, laid, numberOf, reasonOf, row, rowOf, numbers, pointsOf, pointsLength, recordOf, storeOf}
+use Rattle.rule_calls.specs.Calls.{planOf, ReadOut}
+use Rattle.rule_calls.proofs.Back.{laid-front, row-back, points-back, noLayout, routeNumbers, reason-back}
+use Rattle.rule_calls.proofs.Accepted.{good-room}
+use Rattle.rule_calls.proofs.StepLaws.{Fair}
+use Rattle.rule_calls.proofs.Reading.{read-checks, read-is, read-among}
 use Rattle.promise.specs.Promise.{
   Call,
   stepping,
@@ -134,7 +134,7 @@ module _ (steps : List Step) (once : eachOnce steps ≡ true) (i : Inputs) (l : 
         go none w r e = ap (λ (q : List ℕ). numbers (map (positionOf (i .query .window)) q)) (sym (Option·some-injective [] r e))
         go (some m) w r e =
             let g = boardOf steps i in
-            let laid = laid-board steps i once (fair .startIn) (fair .endIn) in
+            let laid = regular-board steps i once (fair .startIn) (fair .endIn) in
             record {
               route = r;
               found = e;
@@ -188,7 +188,7 @@ module _ (steps : List Step) (once : eachOnce steps ≡ true) (i : Inputs) (l : 
   wall-exchanged set =
       let fair = search-fair steps once i l s in
       subst (λ (g : Board). IsWall (boardOf steps i) set ↔ IsWall g set) (sym (board-exchanged steps i))
-      (wall-turned (boardOf steps i) (laid-board steps i once (fair .startIn) (fair .endIn)) set)
+      (wall-turned (boardOf steps i) (regular-board steps i once (fair .startIn) (fair .endIn)) set)
 
   -- there and back
   pub same-return : (m : Limits) (t : Search steps (exchanged i) m) → HasExhausted (ends steps s) → HasExhausted (ends steps t)
@@ -199,7 +199,7 @@ module _ (steps : List Step) (once : eachOnce steps ≡ true) (i : Inputs) (l : 
       let same = wall-exchanged set in
       ((λ x. back .0 (same .0 (out .1 x))), (λ x. out .0 (same .1 (back .1 x))))
 
-  -- demand 3
+  -- the promise (RULES 10)
   pub promise : Promise steps i l s
   unfolding begins
   promise = record {

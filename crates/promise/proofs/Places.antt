@@ -5,8 +5,8 @@ use mathlib.Core.List.{List, [], _∷_, map, List·Memᴰ, List·Memᴰ·head, L
 use native.Mathlib.Nat.{not-suc-le-zero}
 use native.Mathlib.Omega.{arith}
 use lib.ListN.{length, getD}
-use Rattle.laws.proofs.Members.{getD-member}
-use Rattle.laws.proofs.Distinct.{Distinct, fresh}
+use Rattle.base_laws.specs.Lists.{Distinct, fresh}
+use Rattle.base_laws.proofs.Members.{getD-member}
 
 module _ {A : Type 0} (d : A) where
   pub member-place : (l : List A) {x : A} → List·Memᴰ x l → (k : ℕ) × (k < length l) × (getD l k d ≡ x)

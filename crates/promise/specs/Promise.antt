@@ -1,22 +1,22 @@
--- Demand 3, one claim about a whole list of calls: after an accepted begin and any list of steps and readings, every layout is a wall, none is listed twice,
+-- The promise (RULES 10), one claim about a whole list of calls: after an accepted begin and any list of steps and readings, every layout is a wall, none is listed twice,
 -- every accepted reading has handed back the allowed mover's route, and if the reason is then Exhausted the layouts are exactly the walls.
 use Prim.Native.Nat.{ℕ, _<_}
 use mathlib.Core.Path.{_≡_}
 use mathlib.Core.Logic.{_↔_}
 use mathlib.Core.Option.{Option, none, some}
 use mathlib.Core.List.{List, [], _∷_, map}
-use Rattle.model.specs.Answers.{Said}
-use Rattle.model.specs.declared.Limits.{Limits}
-use Rattle.model.specs.declared.Record.{Record}
-use Rattle.rects.specs.Windows.{positionOf}
-use Rattle.routes.specs.Edges.{Step}
-use Rattle.routes.specs.Roads.{Road}
-use Rattle.layouts.specs.Boards.{Mover, leavesOpen, routePast}
-use Rattle.layouts.specs.Inputs.{Inputs, exchanged, boardOf}
-use Rattle.layouts.specs.Walls.{IsWall}
-use Rattle.search.specs.State.{Exhausted}
-use Rattle.calls.specs.Areas.{Work, Store, numberOf, rowOf, numbers}
-use Rattle.calls.specs.Calls.{After, beginCall, stepCall, readCall}
+use Rattle.base_model.specs.Answers.{Said}
+use Rattle.base_model.specs.declared.Limits.{Limits}
+use Rattle.base_model.specs.declared.Record.{Record}
+use Rattle.ground_rects.specs.Windows.{positionOf}
+use Rattle.rule_routes.specs.Edges.{Step}
+use Rattle.rule_routes.specs.Roads.{Road}
+use Rattle.rule_layouts.specs.Boards.{Mover, leavesOpen, routePast}
+use Rattle.rule_layouts.specs.Inputs.{Inputs, exchanged, boardOf}
+use Rattle.rule_layouts.specs.Walls.{IsWall}
+use Rattle.rule_search.specs.State.{Exhausted}
+use Rattle.rule_calls.specs.Areas.{Work, Store, numberOf, rowOf, numbers}
+use Rattle.rule_calls.specs.Calls.{After, beginCall, stepCall, readCall}
 
 -- ---- calls after begin
 -- A step by n or a reading of layout k, with all that it brings of its own. Record and store are what the call before it left.

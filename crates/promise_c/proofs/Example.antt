@@ -5,14 +5,14 @@ use mathlib.Core.Logic.{_↔_}
 use mathlib.Core.List.{List, [], _∷_, map}
 use native.Mathlib.Omega.{arith}
 use lib.ListN.{replicate}
-use Rattle.laws.specs.Lists.{below}
-use Rattle.model.specs.declared.Allow.the-variants.{Bounded}
-use Rattle.model.specs.declared.Limits.{Limits}
-use Rattle.layouts.specs.Inputs.{Inputs, exchanged}
-use Rattle.calls.proofs.Drive.{at, box, bounds, plain, limits, workFor, storeFor, still0, onOpenCell, inputsOf}
+use Rattle.base_laws.specs.Lists.{below}
+use Rattle.base_model.specs.declared.Allow.the-variants.{Bounded}
+use Rattle.base_model.specs.declared.Limits.{Limits}
+use Rattle.rule_layouts.specs.Inputs.{Inputs, exchanged}
+use Rattle.rule_calls.proofs.Drive.{at, box, bounds, plain, limits, workFor, storeFor, still0, onOpenCell, inputsOf}
 use Rattle.promise.specs.Promise.{Call, stepping, reading, inputsIn, limitsIn}
-use Rattle.numbered.specs.Left.{readOn}
-use Rattle.numbered.proofs.Rows.{numbering}
+use Rattle.walls_numbers.specs.Left.{readOn}
+use Rattle.walls_numbers.proofs.Rows.{numbering}
 use Rattle.promise_c.specs.PromiseOn.{HeldOn, leavesOn, layoutsOn, layoutOn, ListedOn, HasExhaustedOn, answerOn, afterOn, runOn, AlongOn, FaithfulOn, SearchOn, beginsOn, endsOn, pointsTold}
 use Rattle.promise_c.proofs.KeptOn.{promise-on}
 

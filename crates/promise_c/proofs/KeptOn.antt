@@ -3,20 +3,20 @@ use Prim.Native.Nat.{ℕ, _<_}
 use mathlib.Core.Path.{_≡_, refl, sym, _∙_, ap, subst}
 use mathlib.Core.Logic.{_↔_}
 use mathlib.Core.List.{List, [], _∷_}
-use Rattle.model.specs.declared.Limits.{Limits}
-use Rattle.routes.specs.Edges.{eightSteps}
-use Rattle.routes.proofs.StepLaws.{eight-once}
-use Rattle.layouts.specs.Inputs.{Inputs, exchanged, boardOf}
-use Rattle.layouts.specs.Walls.{IsWall}
-use Rattle.calls.specs.Areas.{numberOf}
-use Rattle.calls.specs.Calls.{beginCall}
-use Rattle.read.specs.Told.{numberIn}
+use Rattle.base_model.specs.declared.Limits.{Limits}
+use Rattle.rule_routes.specs.Edges.{eightSteps}
+use Rattle.rule_routes.proofs.StepLaws.{eight-once}
+use Rattle.rule_layouts.specs.Inputs.{Inputs, exchanged, boardOf}
+use Rattle.rule_layouts.specs.Walls.{IsWall}
+use Rattle.rule_calls.specs.Areas.{numberOf}
+use Rattle.rule_calls.specs.Calls.{beginCall}
+use Rattle.call_read.specs.Told.{numberIn}
 use Rattle.promise.specs.Promise.{Call, stepping, reading, Held, leaves, layoutAt, Listed, HasExhausted, run, Along, Faithful, Search, begins, ends, HandsBack, Reads}
 use Rattle.promise.proofs.Kept.{promise}
-use Rattle.numbered.specs.Numbers.{recordOf}
-use Rattle.numbered.proofs.Accepted.{read-accepted, read-part}
+use Rattle.walls_numbers.specs.Numbers.{recordFrom}
+use Rattle.walls_numbers.proofs.Accepted.{read-accepted, read-part}
 use Rattle.promise_c.specs.PromiseOn.{HeldOn, layoutsOn, layoutOn, ListedOn, HasExhaustedOn, afterOn, runOn, AlongOn, FaithfulOn, SearchOn, beginsOn, endsOn, pointsTold, ReadsOn, PromiseOn}
-use Rattle.promise_c.proofs.Laid.{heldOf, Whole, begin-yes, begin-held, begin-kept, answer-held, after-held, after-kept}
+use Rattle.promise_c.proofs.OnNumbers.{heldOf, Whole, begin-yes, begin-held, begin-kept, answer-held, after-held, after-kept}
 
 -- ---- along a list of calls
 run-held : (h : HeldOn) (cs : List Call) → Whole (h .numbers) → heldOf (runOn h cs) ≡ run eightSteps (heldOf h) cs
@@ -74,19 +74,19 @@ module _ (i : Inputs) (l : Limits) (s : SearchOn i l) where
   ends-held = run-held (beginsOn s) (s .calls) begun-kept ∙ ap (λ (x : Held). run eightSteps x (s .calls)) begun-held
 
   exhausted-held : HasExhaustedOn (endsOn s) → HasExhausted (ends eightSteps searched)
-  unfolding HasExhaustedOn HasExhausted recordOf numberOf
+  unfolding HasExhaustedOn HasExhausted recordFrom numberOf
   exhausted-held e = subst HasExhausted ends-held e
 
 -- listed by its numbers, listed by its record
 listed-held : (h : HeldOn) (x : Held) (set : List ℕ) → heldOf h ≡ x → ListedOn h set ↔ Listed x set
-unfolding layoutsOn layoutOn layoutAt recordOf
+unfolding layoutsOn layoutOn layoutAt recordFrom
 listed-held h x set e =
     subst (λ (y : Held). ListedOn h set ↔ Listed y set) e
     ((λ m. record { at = m .at; among = m .among; same = m .same }), (λ m. record { at = m .at; among = m .among; same = m .same }))
 
--- demand 3 over the C functions
+-- the promise (RULES 10) over the C functions
 pub promise-on : (i : Inputs) (l : Limits) (s : SearchOn i l) → PromiseOn i l s
-unfolding layoutsOn layoutOn layoutAt recordOf beginsOn begins searched
+unfolding layoutsOn layoutOn layoutAt recordFrom beginsOn begins searched
 promise-on i l s =
     let p = promise eightSteps eight-once i l (searched i l s) in
     let at = ends-held i l s in

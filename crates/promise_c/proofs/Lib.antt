@@ -1,3 +1,3 @@
-pub mod Laid
+pub mod OnNumbers
 pub mod KeptOn
 pub mod Example

@@ -1,16 +1,16 @@
--- Demand 3 over the C functions: the claim of promise/specs/Promise where a record is its numbers and an answer is a number, 0 where the call is accepted.
+-- The promise (RULES 10) over the C functions (RULES 7.10): the claim of promise/specs/Promise where a record is its numbers and an answer is a number, 0 where the call is accepted.
 use Prim.Native.Nat.{ℕ, _*_, _<_}
 use mathlib.Core.Path.{_≡_}
 use mathlib.Core.Logic.{_↔_}
 use mathlib.Core.List.{List, [], _∷_}
 use lib.ListN.{getD, take, drop}
-use Rattle.model.specs.declared.Limits.{Limits}
-use Rattle.routes.specs.Edges.{eightSteps}
-use Rattle.layouts.specs.Inputs.{Inputs, exchanged, boardOf}
-use Rattle.layouts.specs.Walls.{IsWall}
-use Rattle.calls.specs.Areas.{Work, Store, rowOf}
+use Rattle.base_model.specs.declared.Limits.{Limits}
+use Rattle.rule_routes.specs.Edges.{eightSteps}
+use Rattle.rule_layouts.specs.Inputs.{Inputs, exchanged, boardOf}
+use Rattle.rule_layouts.specs.Walls.{IsWall}
+use Rattle.rule_calls.specs.Areas.{Work, Store, rowOf}
 use Rattle.promise.specs.Promise.{Call, stepping, reading, inputsIn, limitsIn, HandsBack}
-use Rattle.numbered.specs.Left.{Left, beginOn, stepOn, LeftRead, readOn}
+use Rattle.walls_numbers.specs.Left.{Left, beginOn, stepOn, LeftRead, readOn}
 
 -- ---- what a call leaves
 pub record HeldOn : Type 0 where

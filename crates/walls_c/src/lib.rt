@@ -1,17 +1,17 @@
-// The calls under C names: every value is a number, a slice is a pointer and a length, the placements are lent flat and the search record is fifty numbers.
-// Each gives 0 where the call is accepted, else the refusal's number; `index` becomes the index given with 15, 0 for any other answer.
-use model::Bounds;
-use model::Limits;
-use model::Position;
-use model::Query;
-use model::Rect;
+// The calls under C names: every value is a number, a slice is a pointer and a length, the placements are lent flat and the search
+// record is fifty numbers. Each gives 0 where the call is accepted, else the refusal's number; `index` becomes the index given with
+// 15, 0 for any other answer.
+use base_model::Bounds;
+use base_model::Limits;
+use base_model::Position;
+use base_model::Rect;
 ghost use mathlib.Core.Path.{_≡_};
-ghost use Rattle.rects.specs.Rects.{rect};
-ghost use Rattle.layouts.specs.Flat.{inputsOf};
-ghost use Rattle.calls.specs.Areas.{workIn, storeIn};
-ghost use Rattle.prepare.specs.Prepare.{preparation};
-ghost use Rattle.numbered.specs.Numbers.{queryFrom};
-ghost use Rattle.numbered.specs.Left.{prepareOn, beginOn, stepOn, readOn, judgeOn};
+ghost use Rattle.ground_rects.specs.Rects.{rect};
+ghost use Rattle.rule_layouts.specs.Flat.{inputsOf};
+ghost use Rattle.rule_calls.specs.Areas.{workIn, storeIn};
+ghost use Rattle.call_prepare.specs.Prepare.{preparation};
+ghost use Rattle.walls_numbers.specs.Numbers.{queryFrom};
+ghost use Rattle.walls_numbers.specs.Left.{prepareOn, beginOn, stepOn, readOn, judgeOn};
 
 // Prepares a mover.
 #[no_mangle]
@@ -39,7 +39,20 @@ pub extern "C" fn hitrovzen_prepare(
     predecessors: &mut [u32],
     route: &mut [u32],
 ) -> u32
-    ensures { λ r. ⌜ prepareOn (preparation across down (now (cells .entry)) (now (obstacles .entry)) (rect «window_left» «window_top» «window_right» «window_bottom») (record { x = «start_x»; y = «start_y» }) (record { x = «end_x»; y = «end_y» }) (record { left = «mover_left»; top = «mover_top»; right = «mover_right»; bottom = «mover_bottom» })) (now (baseline .entry)) (workIn (now (counts .entry)) (now (map .entry)) (now (queue .entry)) (now (predecessors .entry)) (now (route .entry))) ≡ record { answer = r; baseline = now (baseline .exit); work = workIn (now (counts .exit)) (now (map .exit)) (now (queue .exit)) (now (predecessors .exit)) (now (route .exit)) } ⌝ }
+    ensures { λ r. ⌜
+        prepareOn
+        (preparation across down (now (cells .entry)) (now (obstacles .entry))
+        (rect «window_left» «window_top» «window_right» «window_bottom»)
+        (record { x = «start_x»; y = «start_y» }) (record { x = «end_x»; y = «end_y» })
+        (record { left = «mover_left»; top = «mover_top»; right = «mover_right»; bottom = «mover_bottom» }))
+        (now (baseline .entry))
+        (workIn (now (counts .entry)) (now (map .entry)) (now (queue .entry)) (now (predecessors .entry)) (now (route .entry)))
+        ≡ record {
+          answer = r;
+          baseline = now (baseline .exit);
+          work = workIn (now (counts .exit)) (now (map .exit)) (now (queue .exit)) (now (predecessors .exit)) (now (route .exit));
+        }
+        ⌝ }
 {
     let window = Rect {
         left: window_left,
@@ -58,7 +71,7 @@ pub extern "C" fn hitrovzen_prepare(
         right: mover_right,
         bottom: mover_bottom,
     };
-    read::number_of(prepare::prepare(
+    call_read::number_of(call_prepare::prepare(
         across,
         down,
         cells,
@@ -74,50 +87,6 @@ pub extern "C" fn hitrovzen_prepare(
         predecessors,
         route,
     ))
-}
-
-fn begin_on(
-    query: Query,
-    limits: Limits,
-    groups: &[u32],
-    numbers: &[u32],
-    edges: &[i32],
-    block_base: &[u8],
-    allow_base: &[u8],
-    rec: &mut [u32],
-    counts: &mut [i32],
-    map: &mut [u8],
-    queue: &mut [u32],
-    predecessors: &mut [u32],
-    route: &mut [u32],
-    lists: &mut [u16],
-    visited: &mut [u16],
-    layouts: &mut [u16],
-    points: &mut [u32],
-    index: &mut u32,
-) -> u32
-    ensures { λ r. ⌜ beginOn (inputsOf query (now (groups .entry)) (now (numbers .entry)) (now (edges .entry)) (now («block_base» .entry)) (now («allow_base» .entry))) limits (now (rec .entry)) (workIn (now (counts .entry)) (now (map .entry)) (now (queue .entry)) (now (predecessors .entry)) (now (route .entry))) (storeIn (now (lists .entry)) (now (visited .entry)) (now (layouts .entry)) (now (points .entry))) ≡ record { answer = r; index = now (index .exit); numbers = now (rec .exit); work = workIn (now (counts .exit)) (now (map .exit)) (now (queue .exit)) (now (predecessors .exit)) (now (route .exit)); store = storeIn (now (lists .exit)) (now (visited .exit)) (now (layouts .exit)) (now (points .exit)) } ⌝ }
-{
-    let room = numbered::visited_lent(visited.len(), rec.len());
-    let reply = begin::begin(
-        query,
-        limits,
-        groups,
-        numbers,
-        edges,
-        block_base,
-        allow_base,
-        counts,
-        map,
-        queue,
-        predecessors,
-        route,
-        lists,
-        &mut visited[..room],
-        layouts,
-        points,
-    );
-    numbered::tell(rec, reply, index)
 }
 
 // Begins a search. A refusal leaves the numbers of the record as they were; entries past the fiftieth are never written.
@@ -159,9 +128,26 @@ pub extern "C" fn hitrovzen_begin(
     points: &mut [u32],
     index: &mut u32,
 ) -> u32
-    ensures { λ r. ⌜ beginOn (inputsOf (queryFrom «window_left» «window_top» «window_right» «window_bottom» «start_x» «start_y» «end_x» «end_y» «block_left» «block_top» «block_right» «block_bottom» «allow_given» «allow_left» «allow_top» «allow_right» «allow_bottom») (now (groups .entry)) (now (numbers .entry)) (now (edges .entry)) (now («block_base» .entry)) (now («allow_base» .entry))) (record { states = states; results = results }) (now (rec .entry)) (workIn (now (counts .entry)) (now (map .entry)) (now (queue .entry)) (now (predecessors .entry)) (now (route .entry))) (storeIn (now (lists .entry)) (now (visited .entry)) (now (layouts .entry)) (now (points .entry))) ≡ record { answer = r; index = now (index .exit); numbers = now (rec .exit); work = workIn (now (counts .exit)) (now (map .exit)) (now (queue .exit)) (now (predecessors .exit)) (now (route .exit)); store = storeIn (now (lists .exit)) (now (visited .exit)) (now (layouts .exit)) (now (points .exit)) } ⌝ }
+    ensures { λ r. ⌜
+        beginOn
+        (inputsOf
+        (queryFrom «window_left» «window_top» «window_right» «window_bottom» «start_x» «start_y» «end_x» «end_y»
+        «block_left» «block_top» «block_right» «block_bottom»
+        «allow_given» «allow_left» «allow_top» «allow_right» «allow_bottom»)
+        (now (groups .entry)) (now (numbers .entry)) (now (edges .entry)) (now («block_base» .entry)) (now («allow_base» .entry)))
+        (record { states = states; results = results }) (now (rec .entry))
+        (workIn (now (counts .entry)) (now (map .entry)) (now (queue .entry)) (now (predecessors .entry)) (now (route .entry)))
+        (storeIn (now (lists .entry)) (now (visited .entry)) (now (layouts .entry)) (now (points .entry)))
+        ≡ record {
+          answer = r;
+          index = now (index .exit);
+          numbers = now (rec .exit);
+          work = workIn (now (counts .exit)) (now (map .exit)) (now (queue .exit)) (now (predecessors .exit)) (now (route .exit));
+          store = storeIn (now (lists .exit)) (now (visited .exit)) (now (layouts .exit)) (now (points .exit));
+        }
+        ⌝ }
 {
-    let query = numbered::query_from(
+    let query = walls_given::query_from(
         window_left,
         window_top,
         window_right,
@@ -184,7 +170,7 @@ pub extern "C" fn hitrovzen_begin(
         states: states,
         results: results,
     };
-    begin_on(
+    walls_on::begin_on(
         query,
         limits,
         groups,
@@ -204,54 +190,6 @@ pub extern "C" fn hitrovzen_begin(
         points,
         index,
     )
-}
-
-fn step_on(
-    query: Query,
-    limits: Limits,
-    groups: &[u32],
-    numbers: &[u32],
-    edges: &[i32],
-    block_base: &[u8],
-    allow_base: &[u8],
-    rec: &mut [u32],
-    n: u32,
-    counts: &mut [i32],
-    map: &mut [u8],
-    queue: &mut [u32],
-    predecessors: &mut [u32],
-    route: &mut [u32],
-    lists: &mut [u16],
-    visited: &mut [u16],
-    layouts: &mut [u16],
-    points: &mut [u32],
-    index: &mut u32,
-) -> u32
-    ensures { λ r. ⌜ stepOn (inputsOf query (now (groups .entry)) (now (numbers .entry)) (now (edges .entry)) (now («block_base» .entry)) (now («allow_base» .entry))) limits (now (rec .entry)) n (workIn (now (counts .entry)) (now (map .entry)) (now (queue .entry)) (now (predecessors .entry)) (now (route .entry))) (storeIn (now (lists .entry)) (now (visited .entry)) (now (layouts .entry)) (now (points .entry))) ≡ record { answer = r; index = now (index .exit); numbers = now (rec .exit); work = workIn (now (counts .exit)) (now (map .exit)) (now (queue .exit)) (now (predecessors .exit)) (now (route .exit)); store = storeIn (now (lists .exit)) (now (visited .exit)) (now (layouts .exit)) (now (points .exit)) } ⌝ }
-{
-    let room = numbered::visited_lent(visited.len(), rec.len());
-    let given = numbered::record_in(rec);
-    let reply = step::step(
-        query,
-        limits,
-        groups,
-        numbers,
-        edges,
-        block_base,
-        allow_base,
-        given,
-        n,
-        counts,
-        map,
-        queue,
-        predecessors,
-        route,
-        lists,
-        &mut visited[..room],
-        layouts,
-        points,
-    );
-    numbered::tell(rec, reply, index)
 }
 
 // Evaluates n sets more, or stops. A refusal leaves the numbers of the record as they were.
@@ -294,9 +232,26 @@ pub extern "C" fn hitrovzen_step(
     points: &mut [u32],
     index: &mut u32,
 ) -> u32
-    ensures { λ r. ⌜ stepOn (inputsOf (queryFrom «window_left» «window_top» «window_right» «window_bottom» «start_x» «start_y» «end_x» «end_y» «block_left» «block_top» «block_right» «block_bottom» «allow_given» «allow_left» «allow_top» «allow_right» «allow_bottom») (now (groups .entry)) (now (numbers .entry)) (now (edges .entry)) (now («block_base» .entry)) (now («allow_base» .entry))) (record { states = states; results = results }) (now (rec .entry)) n (workIn (now (counts .entry)) (now (map .entry)) (now (queue .entry)) (now (predecessors .entry)) (now (route .entry))) (storeIn (now (lists .entry)) (now (visited .entry)) (now (layouts .entry)) (now (points .entry))) ≡ record { answer = r; index = now (index .exit); numbers = now (rec .exit); work = workIn (now (counts .exit)) (now (map .exit)) (now (queue .exit)) (now (predecessors .exit)) (now (route .exit)); store = storeIn (now (lists .exit)) (now (visited .exit)) (now (layouts .exit)) (now (points .exit)) } ⌝ }
+    ensures { λ r. ⌜
+        stepOn
+        (inputsOf
+        (queryFrom «window_left» «window_top» «window_right» «window_bottom» «start_x» «start_y» «end_x» «end_y»
+        «block_left» «block_top» «block_right» «block_bottom»
+        «allow_given» «allow_left» «allow_top» «allow_right» «allow_bottom»)
+        (now (groups .entry)) (now (numbers .entry)) (now (edges .entry)) (now («block_base» .entry)) (now («allow_base» .entry)))
+        (record { states = states; results = results }) (now (rec .entry)) n
+        (workIn (now (counts .entry)) (now (map .entry)) (now (queue .entry)) (now (predecessors .entry)) (now (route .entry)))
+        (storeIn (now (lists .entry)) (now (visited .entry)) (now (layouts .entry)) (now (points .entry)))
+        ≡ record {
+          answer = r;
+          index = now (index .exit);
+          numbers = now (rec .exit);
+          work = workIn (now (counts .exit)) (now (map .exit)) (now (queue .exit)) (now (predecessors .exit)) (now (route .exit));
+          store = storeIn (now (lists .exit)) (now (visited .exit)) (now (layouts .exit)) (now (points .exit));
+        }
+        ⌝ }
 {
-    let query = numbered::query_from(
+    let query = walls_given::query_from(
         window_left,
         window_top,
         window_right,
@@ -319,7 +274,7 @@ pub extern "C" fn hitrovzen_step(
         states: states,
         results: results,
     };
-    step_on(
+    walls_on::step_on(
         query,
         limits,
         groups,
@@ -342,55 +297,8 @@ pub extern "C" fn hitrovzen_step(
     )
 }
 
-fn read_on(
-    query: Query,
-    limits: Limits,
-    groups: &[u32],
-    numbers: &[u32],
-    edges: &[i32],
-    block_base: &[u8],
-    allow_base: &[u8],
-    rec: &[u32],
-    k: u32,
-    lists: &[u16],
-    visited: &[u16],
-    layouts: &[u16],
-    points: &[u32],
-    index: &mut u32,
-    first: &mut u32,
-    count: &mut u32,
-) -> u32
-    ensures { λ r. ⌜ readOn (inputsOf query (now (groups .entry)) (now (numbers .entry)) (now (edges .entry)) (now («block_base» .entry)) (now («allow_base» .entry))) limits (now (rec .entry)) k (storeIn (now (lists .entry)) (now (visited .entry)) (now (layouts .entry)) (now (points .entry))) ≡ record { answer = r; index = now (index .exit); first = now (first .exit); count = now (count .exit) } ⌝ }
-{
-    let room = numbered::visited_lent(visited.len(), rec.len());
-    let given = numbered::record_in(rec);
-    let answer = read::read_checks(
-        query,
-        limits,
-        groups,
-        numbers,
-        edges,
-        block_base,
-        allow_base,
-        given,
-        k,
-        lists,
-        &visited[..room],
-        layouts,
-        points,
-    );
-    *index = read::index_of(answer);
-    if !read::accepted(answer) {
-        *first = 0;
-        *count = 0;
-        return read::number_of(answer);
-    }
-    *first = numbered::first_point(given, k);
-    *count = numbered::point_count(given, k);
-    0
-}
-
-// Tells where layout k's route stands among the kept points, and how many points it has: two numbers of the points area each. Both 0 on a refusal.
+// Tells where layout k's route stands among the kept points, and how many points it has: two numbers of the points area each. Both 0
+// on a refusal.
 #[no_mangle]
 pub extern "C" fn hitrovzen_read(
     window_left: i32,
@@ -427,9 +335,24 @@ pub extern "C" fn hitrovzen_read(
     first: &mut u32,
     count: &mut u32,
 ) -> u32
-    ensures { λ r. ⌜ readOn (inputsOf (queryFrom «window_left» «window_top» «window_right» «window_bottom» «start_x» «start_y» «end_x» «end_y» «block_left» «block_top» «block_right» «block_bottom» «allow_given» «allow_left» «allow_top» «allow_right» «allow_bottom») (now (groups .entry)) (now (numbers .entry)) (now (edges .entry)) (now («block_base» .entry)) (now («allow_base» .entry))) (record { states = states; results = results }) (now (rec .entry)) k (storeIn (now (lists .entry)) (now (visited .entry)) (now (layouts .entry)) (now (points .entry))) ≡ record { answer = r; index = now (index .exit); first = now (first .exit); count = now (count .exit) } ⌝ }
+    ensures { λ r. ⌜
+        readOn
+        (inputsOf
+        (queryFrom «window_left» «window_top» «window_right» «window_bottom» «start_x» «start_y» «end_x» «end_y»
+        «block_left» «block_top» «block_right» «block_bottom»
+        «allow_given» «allow_left» «allow_top» «allow_right» «allow_bottom»)
+        (now (groups .entry)) (now (numbers .entry)) (now (edges .entry)) (now («block_base» .entry)) (now («allow_base» .entry)))
+        (record { states = states; results = results }) (now (rec .entry)) k
+        (storeIn (now (lists .entry)) (now (visited .entry)) (now (layouts .entry)) (now (points .entry)))
+        ≡ record {
+          answer = r;
+          index = now (index .exit);
+          first = now (first .exit);
+          count = now (count .exit);
+        }
+        ⌝ }
 {
-    let query = numbered::query_from(
+    let query = walls_given::query_from(
         window_left,
         window_top,
         window_right,
@@ -452,7 +375,7 @@ pub extern "C" fn hitrovzen_read(
         states: states,
         results: results,
     };
-    read_on(
+    walls_on::read_on(
         query,
         limits,
         groups,
@@ -472,7 +395,7 @@ pub extern "C" fn hitrovzen_read(
     )
 }
 
-// Judges a selection of placements. The verdict is 1 to 7 in the paper's order; verdict and ground are 0 on a refusal.
+// Judges a selection of placements. The verdict is 1 to 7, in the order of RULES 7.7; verdict and ground are 0 on a refusal.
 #[no_mangle]
 pub extern "C" fn hitrovzen_judge(
     window_left: i32,
@@ -507,9 +430,25 @@ pub extern "C" fn hitrovzen_judge(
     verdict: &mut u32,
     ground: &mut u32,
 ) -> u32
-    ensures { λ r. ⌜ judgeOn (inputsOf (queryFrom «window_left» «window_top» «window_right» «window_bottom» «start_x» «start_y» «end_x» «end_y» «block_left» «block_top» «block_right» «block_bottom» «allow_given» «allow_left» «allow_top» «allow_right» «allow_bottom») (now (groups .entry)) (now (numbers .entry)) (now (edges .entry)) (now («block_base» .entry)) (now («allow_base» .entry))) (now (selection .entry)) (workIn (now (counts .entry)) (now (map .entry)) (now (queue .entry)) (now (predecessors .entry)) (now (route .entry))) ≡ record { answer = r; index = now (index .exit); verdict = now (verdict .exit); ground = now (ground .exit); work = workIn (now (counts .exit)) (now (map .exit)) (now (queue .exit)) (now (predecessors .exit)) (now (route .exit)) } ⌝ }
+    ensures { λ r. ⌜
+        judgeOn
+        (inputsOf
+        (queryFrom «window_left» «window_top» «window_right» «window_bottom» «start_x» «start_y» «end_x» «end_y»
+        «block_left» «block_top» «block_right» «block_bottom»
+        «allow_given» «allow_left» «allow_top» «allow_right» «allow_bottom»)
+        (now (groups .entry)) (now (numbers .entry)) (now (edges .entry)) (now («block_base» .entry)) (now («allow_base» .entry)))
+        (now (selection .entry))
+        (workIn (now (counts .entry)) (now (map .entry)) (now (queue .entry)) (now (predecessors .entry)) (now (route .entry)))
+        ≡ record {
+          answer = r;
+          index = now (index .exit);
+          verdict = now (verdict .exit);
+          ground = now (ground .exit);
+          work = workIn (now (counts .exit)) (now (map .exit)) (now (queue .exit)) (now (predecessors .exit)) (now (route .exit));
+        }
+        ⌝ }
 {
-    let query = numbered::query_from(
+    let query = walls_given::query_from(
         window_left,
         window_top,
         window_right,
@@ -528,7 +467,7 @@ pub extern "C" fn hitrovzen_judge(
         allow_right,
         allow_bottom,
     );
-    let judged = judge::judge(
+    let judged = call_judge::judge(
         query,
         groups,
         numbers,
@@ -542,8 +481,8 @@ pub extern "C" fn hitrovzen_judge(
         predecessors,
         route,
     );
-    *index = numbered::index_in(judged);
-    *verdict = numbered::verdict_in(judged);
-    *ground = numbered::ground_in(judged);
-    numbered::answer_in(judged)
+    *index = walls_told::index_in(judged);
+    *verdict = walls_told::verdict_in(judged);
+    *ground = walls_told::ground_in(judged);
+    walls_told::answer_in(judged)
 }

@@ -1,0 +1,72 @@
+-- The call begin, taken apart: what it leaves by the answer of its checks.
+use Prim.Native.Nat.{ℕ}
+use mathlib.Core.Path.{_≡_, refl, ap, _∙_}
+use mathlib.Core.Bool.{false}
+use mathlib.Core.Option.{Option, none, some}
+use mathlib.Core.List.{List, [], _∷_, _++_}
+use lib.IntN.{ℤ}
+use lib.ListN.{length, take, drop, replicate}
+use Rattle.base_model.specs.Answers.{Said, first}
+use Rattle.base_model.specs.Records.{freshRecord}
+use Rattle.base_model.specs.declared.Limits.{Limits}
+use Rattle.base_model.specs.declared.Record.{Record}
+use Rattle.ground_rects.specs.Windows.{centres}
+use Rattle.rule_routes.specs.Edges.{Step}
+use Rattle.rule_layouts.specs.Inputs.{Inputs, boardOf}
+use Rattle.rule_search.specs.Frames.{begun}
+use Rattle.rule_calls.specs.Areas.{Work, Store, workIn, laid, cleared, recordOf, storeOf}
+use Rattle.rule_calls.specs.Checks.{placeChecks}
+use Rattle.rule_calls.specs.Calls.{noRecord, beginChecks, bothRoutes, beginCall}
+use Rattle.call_checks.proofs.Passed.{Begun}
+use Rattle.rule_calls.proofs.Back.{laid-clear}
+use Rattle.call_begin.specs.Fresh.{orElse}
+use Rattle.call_begin.specs.Movers.{Movable, ThreeSame}
+
+-- ---- what begin leaves
+module _ (steps : List Step) (i : Inputs) (l : Limits) (w : Work) (s : Store) {x : Record} where
+  -- one of the first checks refuses: nothing is written
+  pub first-refused : {r : Said} → first (beginChecks i l w s) ≡ some r → x ≡ freshRecord 0 0 false → beginCall steps i l w s ≡ record { answer = some r; rec = x; work = w; store = s }
+  unfolding beginCall noRecord freshRecord
+  first-refused e f = rw (beginCall, e, f) refl
+
+  module _ {w′ : Work} (e : first (beginChecks i l w s) ≡ none) (f : w′ ≡ cleared (i .query .window) w) where
+    -- one of the later: the working areas are cleared
+    pub later-refused : {r : Said} → first (bothRoutes (boardOf steps i) ++ placeChecks i) ≡ some r → x ≡ freshRecord 0 0 false
+        → beginCall steps i l w s ≡ record { answer = some r; rec = x; work = w′; store = s }
+    unfolding beginCall noRecord freshRecord
+    later-refused g h = rw (beginCall, e, g, f, h) refl
+
+    pub accepts : {s′ : Store} → first (bothRoutes (boardOf steps i) ++ placeChecks i) ≡ none → x ≡ recordOf (length (i .places)) begun → s′ ≡ storeOf i l begun s
+        → beginCall steps i l w s ≡ record { answer = none; rec = x; work = w′; store = s′ }
+    unfolding beginCall
+    accepts g h k = rw (beginCall, e, g, f, h, k) refl
+
+-- ---- the working areas, cleared, are ready for a passage
+pub movable : (i : Inputs) (l : Limits) (w : Work) (s : Store) (w′ : Work) → Begun i l w s → w′ ≡ cleared (i .query .window) w
+    → Movable (i .query) (i .blockBase) (i .allowBase) (w′ .queue) (w′ .predecessors) (w′ .route)
+unfolding cleared
+movable i l w s w′ b e =
+    let n = centres (i .query .window) in
+    record {
+      swept = record {
+        window = b .framing .window;
+        startIn = b .framing .startIn;
+        endIn = b .framing .endIn;
+        queueClear = ap (λ (x : Work). take n (x .queue)) e ∙ laid-clear n (w .queue);
+        predecessorsClear = ap (λ (x : Work). take n (x .predecessors)) e ∙ laid-clear n (w .predecessors);
+        routeClear = ap (λ (x : Work). take n (x .route)) e ∙ laid-clear n (w .route);
+      };
+      block = b .baselines .block;
+      allow = b .baselines .allow;
+    }
+
+-- three areas are as they were, so the working areas are
+pub work-same : (counts : List ℤ) (map : List ℕ) {q p r q′ p′ r′ : List ℕ} → ThreeSame q p r q′ p′ r′ → workIn counts map q′ p′ r′ ≡ workIn counts map q p r
+work-same counts map s = rw (s .queueSame, s .predecessorsSame, s .routeSame) refl
+
+-- two lists of checks, one after the other
+pub first-or : (xs ys : List (Option Said)) → first (xs ++ ys) ≡ orElse (first xs) (first ys)
+unfolding first orElse
+first-or [] ys = refl
+first-or (none ∷ xs) ys = first-or xs ys
+first-or (some r ∷ xs) ys = refl

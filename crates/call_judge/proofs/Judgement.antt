@@ -1,0 +1,68 @@
+-- What judging comes to, and the working areas that it leaves.
+use Prim.Native.Nat.{ℕ, _/_, _≤_}
+use mathlib.Core.Path.{_≡_, sym, ap, _∙_}
+use mathlib.Core.Option.{none, some}
+use mathlib.Core.List.{List, [], _++_}
+use native.Mathlib.Omega.{arith}
+use lib.IntN.{ℤ}
+use lib.ListN.{length, take, drop, replicate, length-take, length-replicate, take-append-drop}
+use lib.Seq.{take-at}
+use Rattle.base_model.specs.Answers.{Said, first}
+use Rattle.base_model.specs.declared.Rect.{Rect}
+use Rattle.base_model.specs.declared.Query.{Query}
+use Rattle.ground_rects.specs.Windows.{centres}
+use Rattle.rule_routes.specs.Edges.{Step, eightSteps, stepsOf, eachOnce}
+use Rattle.rule_routes.proofs.StepLaws.{eight-once}
+use Rattle.rule_layouts.specs.Inputs.{Inputs, boardOf}
+use Rattle.rule_layouts.specs.Judge.{verdict, groundLeft}
+use Rattle.rule_calls.specs.Areas.{Work, workIn, laid, cleared}
+use Rattle.rule_calls.specs.Calls.{Judgement, refuses, judges, judgeChecks, judgeCall}
+use Rattle.rule_calls.proofs.Back.{laid-clear}
+use Rattle.set_explore.specs.Ready.{Ready}
+use Rattle.set_explore.proofs.Extending.{named-rows}
+use Rattle.set_verdict.specs.Flags.{GroundCounted}
+use Rattle.call_judge.specs.Chosen.{Chosen, Clean, FourSame}
+
+-- ---- the answer
+module _ (steps : List Step) (i : Inputs) (s : List ℕ) (w : Work) where
+  pub judge-refused : {e : Said} → first (judgeChecks i s w) ≡ some e → judgeCall steps i s w ≡ record { answer = refuses e; work = w }
+  unfolding judgeCall
+  judge-refused h = rw (judgeCall, h)
+
+  pub judge-accepted : first (judgeChecks i s w) ≡ none → (j : Judgement) → j ≡ judges (verdict (boardOf steps i) s) (groundLeft (boardOf steps i) s)
+      → (w′ : Work) → w′ ≡ cleared (i .query .window) w → judgeCall steps i s w ≡ record { answer = j; work = w′ }
+  unfolding judgeCall
+  judge-accepted h j e w′ f = rw (judgeCall, h, e, f)
+
+-- ---- what the verdict and the count ask
+pub ready : {q : Query} {groups numbers : List ℕ} {edges : List ℤ} {blockBase allowBase set : List ℕ} → Chosen q groups numbers edges blockBase allowBase set
+    → (steps : List ℤ) → stepsOf steps ≡ eightSteps → Ready q groups numbers edges blockBase allowBase steps set (length numbers / 4)
+ready c steps e = record {
+  fits = c .fits;
+  startIn = c .startIn;
+  endIn = c .endIn;
+  slim = c .slim;
+  bytes = c .bytes;
+  allowed = c .allowed;
+  rows = c .rows;
+  once = ap eachOnce e ∙ eight-once;
+  rising = c .rising;
+}
+
+pub counted : {q : Query} {groups numbers : List ℕ} {edges : List ℤ} {blockBase allowBase set map : List ℕ}
+    → Chosen q groups numbers edges blockBase allowBase set → map ≡ replicate (centres (q .window)) 0 → GroundCounted q edges blockBase set map
+counted c e = record { fits = c .fits; slim = c .slim; bytes = c .bytes; named = named-rows (c .rows); clear = e }
+
+-- ---- the areas
+pub clean-work : (w : Rect) (a b : Work) → b ≡ cleared w a → Clean (centres w) (b .map) (b .queue) (b .predecessors) (b .route)
+unfolding cleared
+clean-work w a b e = record {
+  mapClear = ap (λ (x : Work). take (centres w) (x .map)) e ∙ laid-clear (centres w) (a .map);
+  queueClear = ap (λ (x : Work). take (centres w) (x .queue)) e ∙ laid-clear (centres w) (a .queue);
+  predecessorsClear = ap (λ (x : Work). take (centres w) (x .predecessors)) e ∙ laid-clear (centres w) (a .predecessors);
+  routeClear = ap (λ (x : Work). take (centres w) (x .route)) e ∙ laid-clear (centres w) (a .route);
+}
+
+pub same-work : {counts : List ℤ} {map queue predecessors route map′ queue′ predecessors′ route′ : List ℕ} → FourSame map queue predecessors route map′ queue′ predecessors′ route′
+    → workIn counts map′ queue′ predecessors′ route′ ≡ workIn counts map queue predecessors route
+same-work {counts} s = λ j. record { counts = counts; map = s .mapSame j; queue = s .queueSame j; predecessors = s .predecessorsSame j; route = s .routeSame j }

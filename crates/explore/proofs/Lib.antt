@@ -1,7 +1,0 @@
-pub mod Nearby
-pub mod FlatBoard
-pub mod Passing
-pub mod Lifting
-pub mod Evaluating
-pub mod Extending
-pub mod Centres

@@ -1,2 +1,0 @@
-pub mod Baseline
-pub mod Laid

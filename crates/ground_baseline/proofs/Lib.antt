@@ -1,0 +1,3 @@
+pub mod Stamps
+pub mod Marks
+pub mod Stages

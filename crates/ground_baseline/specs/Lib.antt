@@ -1,0 +1,2 @@
+pub mod Baseline
+pub mod Stamps

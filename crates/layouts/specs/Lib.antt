@@ -1,6 +1,0 @@
-pub mod Boards
-pub mod Inputs
-pub mod Flat
-pub mod Explore
-pub mod Walls
-pub mod Judge

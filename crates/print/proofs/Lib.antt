@@ -1,3 +1,0 @@
-pub mod Puts
-pub mod Lines
-pub mod Back

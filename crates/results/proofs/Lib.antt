@@ -1,5 +1,0 @@
-pub mod Left
-pub mod Texts
-pub mod Lengths
-pub mod Lines
-pub mod Marked

@@ -1,0 +1,6 @@
+pub mod Order
+pub mod Turns
+pub mod Clears
+pub mod Simulation
+pub mod Searching
+pub mod Routing

@@ -1,4 +1,0 @@
-pub mod Edges
-pub mod Routes
-pub mod Chains
-pub mod Roads

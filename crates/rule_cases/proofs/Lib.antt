@@ -1,0 +1,3 @@
+pub mod Marked
+pub mod Further
+pub mod Lengths

@@ -1,0 +1,7 @@
+pub mod Rows
+pub mod Fits
+pub mod Regular
+pub mod Explored
+pub mod SameWalls
+pub mod Judged
+pub mod FlatPlaces

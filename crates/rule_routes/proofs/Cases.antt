@@ -1,0 +1,58 @@
+-- Computed cases that a wrong definition fails: edges, routes and what they lean on in small windows, and centre numbers past 65,535.
+use Prim.Native.Nat.{ℕ, _*_}
+use mathlib.Core.Path.{_≡_, refl}
+use mathlib.Core.Bool.{Bool, not}
+use mathlib.Core.Option.{Option, none, some}
+use mathlib.Core.List.{List, [], _∷_}
+use lib.IntN.{pos, negsuc}
+use Rattle.base_laws.specs.Lists.{anyOf, allOf, select, flat, member}
+use Rattle.rule_routes.specs.Edges.{Edge, stepBy, eightSteps, stepsOf, eqZ, centre, inside, sidesFrom, edgeBy, edgesFrom, windowEdges}
+use Rattle.rule_routes.specs.Routes.{neighbours, known, onward, discover, sweep, searchFrom, anyRoute, nodesOf, route, sidesOf, leansOn}
+
+-- all centres but these are open
+openBut : List ℕ → ℕ → Bool
+openBut shut c = not (member c shut)
+
+routeIn : (width height : ℕ) (shut : List ℕ) (start end : ℕ) → Option (List ℕ)
+routeIn width height shut start end = route (windowEdges width height eightSteps) (width * height) (openBut shut) start end
+
+to : ℕ → List ℕ → Edge
+to v sides = record { target = v; sides = sides }
+
+-- the eight steps from the middle of 3 × 3, in their order, with their side centres
+eight : windowEdges 3 3 eightSteps 4
+    ≡ to 5 [] ∷ to 7 [] ∷ to 3 [] ∷ to 1 [] ∷ to 8 (5 ∷ 7 ∷ []) ∷ to 6 (3 ∷ 7 ∷ []) ∷ to 0 (3 ∷ 1 ∷ []) ∷ to 2 (5 ∷ 1 ∷ []) ∷ []
+unfolding windowEdges edgesFrom edgeBy sidesFrom inside centre eqZ eightSteps stepBy select to
+eight = refl
+
+-- the table as x, y pairs
+pairs : stepsOf (pos 1 ∷ pos 0 ∷ pos 0 ∷ pos 1 ∷ negsuc 0 ∷ pos 0 ∷ pos 0 ∷ negsuc 0
+    ∷ pos 1 ∷ pos 1 ∷ negsuc 0 ∷ pos 1 ∷ negsuc 0 ∷ negsuc 0 ∷ pos 1 ∷ negsuc 0 ∷ []) ≡ eightSteps
+unfolding stepsOf eightSteps stepBy
+pairs = refl
+
+-- Routes: a diagonal, and where either or both of its side centres are blocked; round a blocked middle, by the side that is tried first; a wall with no
+-- gap; equal ends, open and blocked; a blocked start; a blocked end.
+routes : (routeIn 2 2 [] 0 3 ≡ some (0 ∷ 3 ∷ []))
+    × (routeIn 2 2 (1 ∷ []) 0 3 ≡ some (0 ∷ 2 ∷ 3 ∷ []))
+    × (routeIn 2 2 (2 ∷ []) 0 3 ≡ some (0 ∷ 1 ∷ 3 ∷ []))
+    × (routeIn 2 2 (1 ∷ 2 ∷ []) 0 3 ≡ none)
+    × (routeIn 3 3 (4 ∷ []) 3 5 ≡ some (3 ∷ 6 ∷ 7 ∷ 8 ∷ 5 ∷ []))
+    × (routeIn 3 3 (1 ∷ 4 ∷ 7 ∷ []) 3 5 ≡ none)
+    × (routeIn 3 3 [] 4 4 ≡ some (4 ∷ []))
+    × (routeIn 3 3 (4 ∷ []) 4 4 ≡ none)
+    × (routeIn 3 3 (3 ∷ []) 3 5 ≡ none)
+    × (routeIn 3 3 (5 ∷ []) 3 5 ≡ none)
+unfolding routeIn openBut windowEdges edgesFrom edgeBy sidesFrom inside centre eqZ eightSteps stepBy anyOf allOf select member neighbours known onward discover sweep searchFrom anyRoute nodesOf route
+routes = (refl, refl, refl, refl, refl, refl, refl, refl, refl, refl)
+
+-- a route leans on its points and on both sides of a diagonal
+leans : leansOn (windowEdges 3 3 eightSteps) (3 ∷ 1 ∷ 2 ∷ []) ≡ 3 ∷ 4 ∷ 0 ∷ 1 ∷ 2 ∷ []
+unfolding windowEdges edgesFrom edgeBy sidesFrom inside centre eqZ eightSteps stepBy select flat sidesOf leansOn
+leans = refl
+
+-- past 65,535: the last row of a window of 300 × 260
+wide : (centre 300 260 (pos 0) (pos 259) ≡ 77700)
+    × (windowEdges 300 260 eightSteps 77700 ≡ to 77701 [] ∷ to 77400 [] ∷ to 77401 (77701 ∷ 77400 ∷ []) ∷ [])
+unfolding windowEdges edgesFrom edgeBy sidesFrom inside centre eqZ eightSteps stepBy select to
+wide = (refl, refl)

@@ -1,0 +1,5 @@
+pub mod Edges
+pub mod Routes
+pub mod Chains
+pub mod Roads
+pub mod Pairs

@@ -1,8 +1,0 @@
-pub mod Worked
-pub mod BlockFirst
-pub mod Values
-pub mod Rows
-pub mod Answering
-pub mod Searching
-pub mod Driving
-pub mod Reading

@@ -1,3 +1,0 @@
-pub mod Drive
-pub mod Inner
-pub mod Answers

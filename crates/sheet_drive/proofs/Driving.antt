@@ -1,0 +1,141 @@
+-- The drive over the flat values: what each call's answer makes of the text. Assumes nothing.
+use mathlib.Core.Path.{_≡_, refl, sym, ap, _∙_, subst}
+use mathlib.Core.Option.{none, some}
+use mathlib.Core.List.{List, [], _∷_}
+use Prim.Native.Nat.{ℕ, _≤_}
+use native.Mathlib.Omega.{arith}
+use lib.IntN.{ℤ}
+use lib.ListN.{length}
+use Rattle.text_forms.specs.Writing.{Put}
+use Rattle.sheet_texts.specs.Parts.{enough, Front}
+use Rattle.base_model.specs.Answers.{Said, saidOf, replyOf}
+use Rattle.base_model.specs.declared.Refusal.{Refusal}
+use Rattle.base_model.specs.declared.Answer.{Answer}
+use Rattle.base_model.specs.declared.Answer.the-variants.{Done, Refused}
+use Rattle.base_model.specs.declared.Bounds.{Bounds}
+use Rattle.base_model.specs.declared.Allow.{Allow}
+use Rattle.base_model.specs.declared.Allow.the-variants.{Nobody, Bounded}
+use Rattle.base_model.specs.declared.Limits.{Limits}
+use Rattle.base_model.specs.declared.Query.{Query}
+use Rattle.rule_routes.specs.Edges.{eightSteps}
+use Rattle.rule_layouts.specs.Flat.{inputsOf}
+use Rattle.rule_calls.specs.Areas.{Work}
+use Rattle.rule_calls.specs.Calls.{Prepared, prepareCall, beginCall}
+use Rattle.call_prepare.specs.Prepare.{preparation}
+use Rattle.sheet_texts.specs.Texts.{refusalText}
+use Rattle.sheet_form.specs.Sheets.{Sheet}
+use Rattle.sheet_rule.specs.Drive.{boundsOf, allowedBy, queryOf, preparationOf, inputsFor, noBytes, noWork, noStore, stepText, searchText, allowText, driveText}
+use Rattle.sheet_drive.specs.Inner.{Flat}
+use Rattle.sheet_texts.proofs.Fronts.{in-front, refusal-short}
+
+module _ (s : Sheet) (across down : ℕ) (cells : List ℕ) (obstacles : List ℤ) (query : Query) (limits : Limits) (groups numbers : List ℕ) (edges : List ℤ)
+    (h : Flat s across down cells obstacles query limits groups numbers edges) where
+  -- the mover that is prepared
+  prepared-for : (b : Bounds) (m : List ℕ) → b ≡ boundsOf m → preparation across down cells obstacles (query .window) (query .start) (query .end) b ≡ preparationOf s m
+  unfolding preparationOf queryOf
+  prepared-for b m e = rw (h .across-is, h .down-is, h .cells-are, h .obstacles-are, h .query-is, e)
+
+  pub searched : (blockBase allowBase : List ℕ) (work : Work)
+      → searchText eightSteps s blockBase allowBase work
+      ≡ stepText eightSteps (inputsOf query groups numbers edges blockBase allowBase) limits (beginCall eightSteps (inputsOf query groups numbers edges blockBase allowBase) limits work noStore)
+  unfolding searchText inputsFor
+  searched blockBase allowBase work = rw (h .query-is, h .limits-are, h .groups-are, h .numbers-are, h .edges-are)
+
+  -- ---- the allowed mover
+  module _ (m : List ℕ) (ms : List (List ℕ)) (b : Bounds) (e : b ≡ boundsOf m) (blockBase : List ℕ) (work : Work) (p : Prepared)
+      (ep : prepareCall eightSteps (preparation across down cells obstacles (query .window) (query .start) (query .end) b) noBytes work ≡ p) where
+    same : prepareCall eightSteps (preparationOf s m) noBytes work ≡ p
+    same = ap (λ q. prepareCall eightSteps q noBytes work) (sym (prepared-for b m e)) ∙ ep
+
+    pub allow-refused : (x : Said) → p .answer ≡ some x → allowText eightSteps s (m ∷ ms) blockBase work ≡ refusalText x
+    unfolding allowText
+    allow-refused x r = rw (allowText, same, r)
+
+    pub allow-searched : p .answer ≡ none → allowText eightSteps s (m ∷ ms) blockBase work ≡ searchText eightSteps s blockBase (p .baseline) (p .work)
+    unfolding allowText
+    allow-searched r = rw (allowText, same, r) (ap (λ (x : Prepared). searchText eightSteps s blockBase (x .baseline) (x .work)) same)
+
+  -- ---- the mover to block
+  module _ (p : Prepared) (ep : prepareCall eightSteps (preparation across down cells obstacles (query .window) (query .start) (query .end) (query .block)) noBytes noWork ≡ p) where
+    block-same : prepareCall eightSteps (preparationOf s (s .block)) noBytes noWork ≡ p
+    unfolding queryOf
+    block-same = ap (λ q. prepareCall eightSteps q noBytes noWork) (sym (prepared-for (query .block) (s .block) (ap (λ (q : Query). q .block) (h .query-is)))) ∙ ep
+
+    pub block-refused : (x : Said) → p .answer ≡ some x → driveText eightSteps s ≡ refusalText x
+    unfolding driveText
+    block-refused x r = rw (driveText, block-same, r)
+
+    pub block-passed : p .answer ≡ none → driveText eightSteps s ≡ allowText eightSteps s (s .allow) (p .baseline) (p .work)
+    unfolding driveText
+    block-passed r = rw (driveText, block-same, r) (ap (λ (x : Prepared). allowText eightSteps s (s .allow) (x .baseline) (x .work)) block-same)
+
+  -- whether there is an allowed mover
+  pub nobody-searched : query .allow ≡ Nobody → (blockBase : List ℕ) (work : Work) → allowText eightSteps s (s .allow) blockBase work ≡ searchText eightSteps s blockBase noBytes work
+  unfolding queryOf allowedBy allowText
+  nobody-searched e blockBase work = go (s .allow) (sym (ap (λ (q : Query). q .allow) (h .query-is)) ∙ e)
+    where
+      go : (l : List (List ℕ)) → allowedBy l ≡ Nobody → allowText eightSteps s l blockBase work ≡ searchText eightSteps s blockBase noBytes work
+      go [] q = refl
+      go (m ∷ ms) q = absurd (let z : _≡_ {A = ℕ} 0 1 = cc in let w : ⊥ = omega arith in w)
+
+-- ---- the same in front of the area
+fronts : (w v before out : List ℕ) (n : ℕ) → v ≡ w → Front w before out n → Front v before out n
+fronts w v before out n e h = subst (λ (x : List ℕ). Front x before out n) (sym e) h
+
+refuses-front : (x : Refusal) (v before out : List ℕ) (n : ℕ) → enough ≤ length before → v ≡ refusalText (saidOf x) → Put (refusalText (saidOf x)) before 0 out n → Front v before out n
+refuses-front x v before out n room e h = fronts (refusalText (saidOf x)) v before out n e (in-front (refusalText (saidOf x)) before out n (omega (arith, refusal-short x)) h)
+
+unfoldable boundsIn : Allow → Bounds
+boundsIn Nobody = boundsOf []
+boundsIn (Bounded b) = b
+
+module _ (s : Sheet) (across down : ℕ) (cells : List ℕ) (obstacles : List ℤ) (query : Query) (limits : Limits) (groups numbers : List ℕ) (edges : List ℤ)
+    (h : Flat s across down cells obstacles query limits groups numbers edges) (o : Answer) (base : List ℕ) (work′ : Work) (before out : List ℕ) (n : ℕ) where
+  abbrev gave : Prepared
+  gave = record { answer = replyOf o; baseline = base; work = work′ }
+
+  module _ (m : List ℕ) (ms : List (List ℕ)) (b : Bounds) (e : b ≡ boundsOf m) (blockBase : List ℕ) (work : Work)
+      (ep : prepareCall eightSteps (preparation across down cells obstacles (query .window) (query .start) (query .end) b) noBytes work ≡ gave) where
+    pub allowed-refused : (x : Refusal) → o ≡ Refused x → enough ≤ length before → Put (refusalText (saidOf x)) before 0 out n → Front (allowText eightSteps s (m ∷ ms) blockBase work) before out n
+    unfolding replyOf
+    allowed-refused x q room k =
+        refuses-front x (allowText eightSteps s (m ∷ ms) blockBase work) before out n room
+        (allow-refused s across down cells obstacles query limits groups numbers edges h m ms b e blockBase work gave ep (saidOf x) (ap replyOf q)) k
+
+    pub allowed-searched : o ≡ Done
+        → Front (stepText eightSteps (inputsOf query groups numbers edges blockBase base) limits
+        (beginCall eightSteps (inputsOf query groups numbers edges blockBase base) limits work′ noStore)) before out n
+        → Front (allowText eightSteps s (m ∷ ms) blockBase work) before out n
+    unfolding replyOf
+    allowed-searched q k =
+        fronts _ _ before out n
+        (allow-searched s across down cells obstacles query limits groups numbers edges h m ms b e blockBase work gave ep (ap replyOf q)
+        ∙ searched s across down cells obstacles query limits groups numbers edges h blockBase base work′) k
+
+  module _ (ep : prepareCall eightSteps (preparation across down cells obstacles (query .window) (query .start) (query .end) (query .block)) noBytes noWork ≡ gave) where
+    pub drive-refused : (x : Refusal) → o ≡ Refused x → enough ≤ length before → Put (refusalText (saidOf x)) before 0 out n → Front (driveText eightSteps s) before out n
+    unfolding replyOf
+    drive-refused x q room k =
+        refuses-front x (driveText eightSteps s) before out n room (block-refused s across down cells obstacles query limits groups numbers edges h gave ep (saidOf x) (ap replyOf q)) k
+
+    passed : o ≡ Done → driveText eightSteps s ≡ allowText eightSteps s (s .allow) base work′
+    unfolding replyOf
+    passed q = block-passed s across down cells obstacles query limits groups numbers edges h gave ep (ap replyOf q)
+
+    pub drive-nobody : o ≡ Done → query .allow ≡ Nobody
+        → Front (stepText eightSteps (inputsOf query groups numbers edges base noBytes) limits
+        (beginCall eightSteps (inputsOf query groups numbers edges base noBytes) limits work′ noStore)) before out n
+        → Front (driveText eightSteps s) before out n
+    drive-nobody q w k =
+        fronts _ _ before out n
+        (passed q ∙ nobody-searched s across down cells obstacles query limits groups numbers edges h w base work′
+        ∙ searched s across down cells obstacles query limits groups numbers edges h base noBytes work′) k
+
+    pub drive-allowed : o ≡ Done → (b : Bounds) → query .allow ≡ Bounded b
+        → ((m : List ℕ) (ms : List (List ℕ)) → b ≡ boundsOf m → Front (allowText eightSteps s (m ∷ ms) base work′) before out n) → Front (driveText eightSteps s) before out n
+    unfolding queryOf allowedBy boundsIn
+    drive-allowed q b w k = fronts _ _ before out n (passed q) (go (s .allow) (sym (ap (λ (q : Query). q .allow) (h .query-is)) ∙ w))
+      where
+        go : (l : List (List ℕ)) → allowedBy l ≡ Bounded b → Front (allowText eightSteps s l base work′) before out n
+        go [] z = absurd (let y : _≡_ {A = ℕ} 0 1 = cc in let no : ⊥ = omega arith in no)
+        go (m ∷ ms) z = k m ms (sym (ap boundsIn z))

@@ -1,0 +1,3 @@
+pub mod One
+pub mod Worked
+pub mod BlockFirst

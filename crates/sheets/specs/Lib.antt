@@ -1,3 +1,0 @@
-pub mod Sheets
-pub mod Answers
-pub mod Inner

@@ -1,5 +1,0 @@
-pub mod Forms
-pub mod Patterns
-pub mod Reading
-pub mod Answers
-pub mod Inner

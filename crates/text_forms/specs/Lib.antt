@@ -1,0 +1,4 @@
+pub mod Forms
+pub mod Patterns
+pub mod Reading
+pub mod Writing

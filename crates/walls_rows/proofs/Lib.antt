@@ -1,0 +1,4 @@
+pub mod Back
+pub mod Laying
+pub mod Long
+pub mod Turns
