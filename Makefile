@@ -18,10 +18,10 @@ KIT = rattle-kit-5b-plain logic 097e4c862dff5811
 
 .PHONY: test kit tidy walks run try edits times worked current bindings compare bench answers stored routes
 
-# What is run after rt ci says nothing where it holds: its count stays the last line. rt proves the crates of one level at a time,
-# RT_JOBS of them beside each other, and waits for the slowest of these: with more of them than processors none stands idle.
+# What is run after rt ci says nothing where it holds: its count stays the last line. rt proves the crates of one level at a time, and
+# tries edits, RT_JOBS of them beside each other, and waits for the slowest of these: three on two processors leave neither idle for long.
 test: kit current tidy
-	@RT_JOBS=$${RT_JOBS:-6} rt ci
+	@RT_JOBS=$${RT_JOBS:-3} rt ci
 	@tests/failed_read target/bin/drive target/bin/program_worked target/bin/program_replay
 
 kit:

@@ -49,10 +49,6 @@ unfolding span ascends
 span-ascends k zero = refl
 span-ascends k (suc n) = both-true (all-true (λ (y : ℕ). ltb k y) (span (suc k) n) (λ j m. lt-ltb k j (span-out (suc k) n j m .0))) (span-ascends (suc k) n)
 
-pub below-ascends : (n : ℕ) → ascends (below n) ≡ true
-unfolding below
-below-ascends n = span-ascends 0 n
-
 pub map-span : {A : Type 0} (f : ℕ → A) (k n : ℕ) → map f (span (suc k) n) ≡ map (λ i. f (suc i)) (span k n)
 unfolding span
 map-span f k zero = refl

@@ -75,15 +75,6 @@ pub ascends-distinct : (s : List ℕ) → ascends s ≡ true → Distinct s
 ascends-distinct [] a = empty
 ascends-distinct (x ∷ s) a = fresh (λ m. let l : x < x = ascends-head x s a x m in omega arith) (ascends-distinct s (ascends-tail x s a))
 
-pub ascends-filter : (f : ℕ → Bool) (s : List ℕ) → ascends s ≡ true → ascends (select f s) ≡ true
-unfolding select ascends
-ascends-filter f [] a = refl
-ascends-filter f (x ∷ s) a =
-    let h = ascends-filter f s (ascends-tail x s a) in
-    either (f x)
-    (λ t. rw (select, t) (ascends-cons x (select f s) (λ j m. ascends-head x s a j (filter-out f s j m .0)) h))
-    (λ e. rw (select, e) h)
-
 -- two sets with the same members are equal
 pub sets-equal : (s t : List ℕ) → ascends s ≡ true → ascends t ≡ true → ((j : ℕ) → List·Memᴰ j s → List·Memᴰ j t) → ((j : ℕ) → List·Memᴰ j t → List·Memᴰ j s) → s ≡ t
 sets-equal [] [] a b f g = refl
@@ -129,19 +120,6 @@ insert-cases i j (x ∷ s) m =
     (λ (q : j ≡ x). inr (List·Memᴰ·head q))
     (λ (k : List·Memᴰ j (putIn i s)). ⊎-elim inl (λ (n : List·Memᴰ j s). inr (List·Memᴰ·tail n)) (insert-cases i j s k))
     (List·Memᴰ·cases-cons (rw (putIn, e) at m)))
-
-pub insert-new : (i : ℕ) (s : List ℕ) → List·Memᴰ i (putIn i s)
-unfolding putIn
-insert-new i [] = List·Memᴰ·head refl
-insert-new i (x ∷ s) = either (ltb i x) (λ t. rw (putIn, t) (List·Memᴰ·head refl)) (λ e. rw (putIn, e) (List·Memᴰ·tail (insert-new i s)))
-
-pub insert-old : (i j : ℕ) (s : List ℕ) → List·Memᴰ j s → List·Memᴰ j (putIn i s)
-unfolding putIn
-insert-old i j [] m = absurd (List·Memᴰ·not-nil m)
-insert-old i j (x ∷ s) m =
-    either (ltb i x)
-    (λ t. rw (putIn, t) (List·Memᴰ·tail m))
-    (λ e. rw (putIn, e) (⊎-elim (λ (q : j ≡ x). List·Memᴰ·head q) (λ (k : List·Memᴰ j s). List·Memᴰ·tail (insert-old i j s k)) (List·Memᴰ·cases-cons m)))
 
 pub length-insert : (i : ℕ) (s : List ℕ) → length (putIn i s) ≡ suc (length s)
 unfolding putIn

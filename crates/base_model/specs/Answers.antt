@@ -1,4 +1,5 @@
 -- Refusals: a number, and the values given with it. Checks stand in a list, in their order; the first that fails is the answer (RULES 7.1, 8.1).
+-- The numbers of the verdicts (RULES 7.7).
 use Prim.Native.Nat.{ℕ}
 use mathlib.Core.Bool.{Bool, true, false}
 use mathlib.Core.Option.{Option, none, some}
@@ -25,6 +26,8 @@ use Rattle.base_model.specs.declared.Refusal.the-variants.{
 }
 use Rattle.base_model.specs.declared.Answer.{Answer}
 use Rattle.base_model.specs.declared.Answer.the-variants.{Done, Refused}
+use Rattle.base_model.specs.declared.Verdict.{Verdict}
+use Rattle.base_model.specs.declared.Verdict.the-variants.{Slots, Overlap, EndCovered, Open, Spare, Shut, Wall}
 
 -- a refusal: its number, and the values given with it
 pub record Said : Type 0 where
@@ -67,3 +70,13 @@ saidOf SelectionInvalid = refusal 17
 unfoldable pub replyOf : Answer → Option Said
 replyOf Done = none
 replyOf (Refused r) = some (saidOf r)
+
+-- the number of RULES 7.7 for each verdict
+unfoldable pub verdictNumber : Verdict → ℕ
+verdictNumber Slots = 1
+verdictNumber Overlap = 2
+verdictNumber EndCovered = 3
+verdictNumber Open = 4
+verdictNumber Spare = 5
+verdictNumber Shut = 6
+verdictNumber Wall = 7

@@ -1,7 +1,7 @@
 // The values that the calls take and give, their bounds, and what they share of code.
 ghost use mathlib.Core.Path.{_≡_};
 ghost use mathlib.Core.Bool.{false};
-ghost use Rattle.base_model.specs.Answers.{saidOf};
+ghost use Rattle.base_model.specs.Answers.{saidOf, verdictNumber};
 ghost use Rattle.base_model.specs.Records.{freshRecord};
 
 // Half open: right and bottom are exclusive.
@@ -217,6 +217,21 @@ pub fn refusal_number(refusal: Refusal) -> u32
         Refusal::PlacementInvalid(_) => 15,
         Refusal::RecordInvalid => 16,
         Refusal::SelectionInvalid => 17,
+    }
+}
+
+// The number of a verdict.
+pub fn verdict_number(verdict: Verdict) -> u32
+    ensures { λ r. ⌜ r ≡ verdictNumber verdict ⌝ }
+{
+    match verdict {
+        Verdict::Slots => 1,
+        Verdict::Overlap => 2,
+        Verdict::EndCovered => 3,
+        Verdict::Open => 4,
+        Verdict::Spare => 5,
+        Verdict::Shut => 6,
+        Verdict::Wall => 7,
     }
 }
 

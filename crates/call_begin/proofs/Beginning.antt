@@ -2,10 +2,10 @@
 use Prim.Native.Nat.{ℕ}
 use mathlib.Core.Path.{_≡_, refl, ap, _∙_}
 use mathlib.Core.Bool.{false}
-use mathlib.Core.Option.{Option, none, some}
-use mathlib.Core.List.{List, [], _∷_, _++_}
+use mathlib.Core.Option.{none, some}
+use mathlib.Core.List.{List, _++_}
 use lib.IntN.{ℤ}
-use lib.ListN.{length, take, drop, replicate}
+use lib.ListN.{length, take}
 use Rattle.base_model.specs.Answers.{Said, first}
 use Rattle.base_model.specs.Records.{freshRecord}
 use Rattle.base_model.specs.declared.Limits.{Limits}
@@ -14,13 +14,12 @@ use Rattle.ground_rects.specs.Windows.{centres}
 use Rattle.rule_routes.specs.Edges.{Step}
 use Rattle.rule_layouts.specs.Inputs.{Inputs, boardOf}
 use Rattle.rule_search.specs.Frames.{begun}
-use Rattle.rule_calls.specs.Areas.{Work, Store, workIn, laid, cleared, recordOf, storeOf}
+use Rattle.rule_calls.specs.Areas.{Work, Store, workIn, cleared, recordOf, storeOf}
 use Rattle.rule_calls.specs.Checks.{placeChecks}
 use Rattle.rule_calls.specs.Calls.{noRecord, beginChecks, bothRoutes, beginCall}
 use Rattle.call_checks.proofs.Passed.{Begun}
 use Rattle.rule_calls.proofs.Back.{laid-clear}
-use Rattle.call_begin.specs.Fresh.{orElse}
-use Rattle.call_begin.specs.Movers.{Movable, ThreeSame}
+use Rattle.call_movers.specs.Movers.{Movable, ThreeSame}
 
 -- ---- what begin leaves
 module _ (steps : List Step) (i : Inputs) (l : Limits) (w : Work) (s : Store) {x : Record} where
@@ -63,10 +62,3 @@ movable i l w s w′ b e =
 -- three areas are as they were, so the working areas are
 pub work-same : (counts : List ℤ) (map : List ℕ) {q p r q′ p′ r′ : List ℕ} → ThreeSame q p r q′ p′ r′ → workIn counts map q′ p′ r′ ≡ workIn counts map q p r
 work-same counts map s = rw (s .queueSame, s .predecessorsSame, s .routeSame) refl
-
--- two lists of checks, one after the other
-pub first-or : (xs ys : List (Option Said)) → first (xs ++ ys) ≡ orElse (first xs) (first ys)
-unfolding first orElse
-first-or [] ys = refl
-first-or (none ∷ xs) ys = first-or xs ys
-first-or (some r ∷ xs) ys = refl

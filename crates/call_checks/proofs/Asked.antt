@@ -14,8 +14,8 @@ use Rattle.ground_rects.specs.Rects.{small}
 use Rattle.ground_rects.specs.Windows.{centres, windowFits, inWindow}
 use Rattle.rule_layouts.specs.Inputs.{Inputs}
 use Rattle.rule_calls.specs.Areas.{basesFit}
-use Rattle.rule_calls.specs.Checks.{groupChecks, moversSmall, bytesFit, limitChecks, queryChecks, placeChecks}
-use Rattle.call_checks.specs.Parts.{groupsFit, allowSmall, allowLong, bytesTo, allowBytes, framesOf, frameChecks, areasOf, areaChecks, placesAsked}
+use Rattle.rule_calls.specs.Checks.{groupChecks, moversSmall, bytesFit, limitChecks, queryChecks}
+use Rattle.call_checks.specs.Parts.{groupsFit, allowSmall, allowLong, bytesTo, allowBytes, framesOf, frameChecks, areasOf, areaChecks}
 
 -- ---- lists of checks, one after another
 pub first-then : (xs ys : List (Option Said)) → first xs ≡ none → first (xs ++ ys) ≡ first ys
@@ -34,10 +34,6 @@ first-stops (some q ∷ xs) ys r e = e
 pub query-parts : (i : Inputs) (long : Bool) → queryChecks i long ≡ frameChecks i ++ areaChecks i long
 unfolding queryChecks frameChecks framesOf areaChecks areasOf moversSmall allowSmall basesFit allowLong bytesFit bytesTo allowBytes
 query-parts i long = refl
-
-pub place-parts : (i : Inputs) → placeChecks i ≡ placesAsked (i .query .window) (i .groups) (i .places)
-unfolding placeChecks placesAsked
-place-parts i = refl
 
 -- ---- 10
 module _ (i : Inputs) (gs : List ℕ) (e : i .groups ≡ gs) where

@@ -1,9 +1,8 @@
 -- Areas whose first entries are zeros are those of a cleared call, and of a search that has begun.
 use Prim.Native.Nat.{ℕ, _-_, _+_, _*_, _≤_}
-use mathlib.Core.Path.{_≡_, refl, ap, _∙_}
+use mathlib.Core.Path.{_≡_, refl, ap}
 use mathlib.Core.Bool.{true, _&&_}
-use mathlib.Core.List.{List, [], _++_}
-use native.Mathlib.Omega.{arith}
+use mathlib.Core.List.{List, _++_}
 use lib.Dec.{leb}
 use lib.IntN.{ℤ, pos}
 use lib.ListN.{length, drop, replicate}
@@ -17,7 +16,7 @@ use Rattle.ground_rects.specs.Windows.{centres, windowFits}
 use Rattle.rule_layouts.specs.Inputs.{Inputs}
 use Rattle.rule_search.specs.State.{state}
 use Rattle.rule_search.specs.Frames.{begun}
-use Rattle.rule_calls.specs.Areas.{Work, Store, countsLength, pointsLength, workFits, storeFits, laid, cleared, storeOf}
+use Rattle.rule_calls.specs.Areas.{Work, Store, countsLength, pointsLength, workFits, storeFits, cleared, storeOf}
 use Rattle.rule_calls.proofs.Back.{laid-none}
 use Rattle.call_lengths.specs.Lengths.{pointsRoom}
 use Rattle.call_clear.specs.Room.{StoreRoom}

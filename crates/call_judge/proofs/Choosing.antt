@@ -21,7 +21,7 @@ use Rattle.ground_rects.specs.Windows.{centres}
 use Rattle.rule_layouts.specs.Inputs.{Inputs}
 use Rattle.rule_layouts.specs.Flat.{placementsOf, inputsOf}
 use Rattle.rule_calls.specs.Areas.{Work, workFits}
-use Rattle.rule_calls.specs.Checks.{groupChecks, queryChecks, placeChecks}
+use Rattle.rule_calls.specs.Checks.{groupChecks, placeChecks}
 use Rattle.rule_calls.specs.Calls.{selectionFits, judgeChecks}
 use Rattle.rule_calls.proofs.StepLaws.{first-both}
 use Rattle.call_checks.specs.Parts.{allowSmall, allowLong, framesOf, frameChecks, areasOf, areaChecks}
@@ -29,7 +29,7 @@ use Rattle.call_checks.proofs.Asked.{first-then, first-stops, query-parts}
 use Rattle.call_checks.proofs.Passed.{Framing, Spacious, frames-found, areas-found}
 use Rattle.call_checks.proofs.Placed.{places-whole}
 use Rattle.set_extend.specs.Join.{Rowed}
-use Rattle.set_explore.specs.Ready.{AllowReady}
+use Rattle.set_cover.specs.Cover.{AllowReady}
 use Rattle.call_judge.specs.Chosen.{Chosen}
 
 -- ---- the checks, in parts

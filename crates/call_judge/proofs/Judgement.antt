@@ -1,12 +1,10 @@
 -- What judging comes to, and the working areas that it leaves.
-use Prim.Native.Nat.{ℕ, _/_, _≤_}
-use mathlib.Core.Path.{_≡_, sym, ap, _∙_}
+use Prim.Native.Nat.{ℕ, _/_}
+use mathlib.Core.Path.{_≡_, ap, _∙_}
 use mathlib.Core.Option.{none, some}
-use mathlib.Core.List.{List, [], _++_}
-use native.Mathlib.Omega.{arith}
+use mathlib.Core.List.{List}
 use lib.IntN.{ℤ}
-use lib.ListN.{length, take, drop, replicate, length-take, length-replicate, take-append-drop}
-use lib.Seq.{take-at}
+use lib.ListN.{length, take, replicate}
 use Rattle.base_model.specs.Answers.{Said, first}
 use Rattle.base_model.specs.declared.Rect.{Rect}
 use Rattle.base_model.specs.declared.Query.{Query}
@@ -15,11 +13,11 @@ use Rattle.rule_routes.specs.Edges.{Step, eightSteps, stepsOf, eachOnce}
 use Rattle.rule_routes.proofs.StepLaws.{eight-once}
 use Rattle.rule_layouts.specs.Inputs.{Inputs, boardOf}
 use Rattle.rule_layouts.specs.Judge.{verdict, groundLeft}
-use Rattle.rule_calls.specs.Areas.{Work, workIn, laid, cleared}
+use Rattle.rule_calls.specs.Areas.{Work, workIn, cleared}
 use Rattle.rule_calls.specs.Calls.{Judgement, refuses, judges, judgeChecks, judgeCall}
 use Rattle.rule_calls.proofs.Back.{laid-clear}
-use Rattle.set_explore.specs.Ready.{Ready}
-use Rattle.set_explore.proofs.Extending.{named-rows}
+use Rattle.set_board.specs.Ready.{Ready}
+use Rattle.set_board.proofs.Ready.{named-rows}
 use Rattle.set_verdict.specs.Flags.{GroundCounted}
 use Rattle.call_judge.specs.Chosen.{Chosen, Clean, FourSame}
 

@@ -5,7 +5,7 @@ use base_model::Query;
 use base_model::Refusal;
 use base_model::SLOTS;
 use call_lengths::WorkLengths;
-use call_record::members_fit;
+use call_rows::members_fit;
 ghost use mathlib.Core.Path.{_≡_};
 ghost use mathlib.Core.Option.{none};
 ghost use Rattle.base_model.specs.Answers.{first, replyOf};
@@ -17,7 +17,7 @@ ghost use Rattle.rule_layouts.specs.Judge.{verdict, groundLeft};
 ghost use Rattle.rule_calls.specs.Areas.{Work, workIn};
 ghost use Rattle.rule_calls.specs.Calls.{judges, judgementOf, selectionFits, judgeChecks, judgeCall};
 ghost use Rattle.call_lengths.specs.Lengths.{WorkHas};
-ghost use Rattle.set_explore.specs.Ready.{Blank};
+ghost use Rattle.set_board.specs.Ready.{Blank};
 ghost use Rattle.call_judge.specs.Chosen.{Chosen, Clean, FourSame};
 
 // Whether the selection ascends strictly, has at most 6 members and names some of n placements.
@@ -87,11 +87,15 @@ fn judged(
 ) -> Judged
     requires { ⌜ Chosen query (now groups) (now numbers) (now edges) (now «block_base») (now «allow_base») (now selection) ⌝ }
     requires { ⌜ Blank (centres (query .window)) (now map) (now queue) (now predecessors) (now route) ⌝ }
-    ensures { λ r. ⌜ judgementOf r ≡ judges (verdict
+    ensures { λ r. ⌜ judgementOf r ≡ judges
+        (verdict
         (boardOf eightSteps (inputsOf query (now (groups .entry)) (now (numbers .entry)) (now (edges .entry)) (now («block_base» .entry))
-        (now («allow_base» .entry)))) (now (selection .entry)))
-        (groundLeft (boardOf eightSteps (inputsOf query (now (groups .entry)) (now (numbers .entry)) (now (edges .entry))
-        (now («block_base» .entry)) (now («allow_base» .entry)))) (now (selection .entry))) ⌝ }
+        (now («allow_base» .entry))))
+        (now (selection .entry)))
+        (groundLeft
+        (boardOf eightSteps (inputsOf query (now (groups .entry)) (now (numbers .entry)) (now (edges .entry)) (now («block_base» .entry))
+        (now («allow_base» .entry))))
+        (now (selection .entry))) ⌝ }
     ensures { λ r. ⌜ Blank (centres (query .window)) (now (map .exit)) (now (queue .exit)) (now (predecessors .exit))
         (now (route .exit)) ⌝ }
 {
@@ -130,11 +134,15 @@ fn judged_in(
 ) -> Judged
     requires { ⌜ Chosen query (now groups) (now numbers) (now edges) (now «block_base») (now «allow_base») (now selection) ⌝ }
     requires { ⌜ Clean (centres (query .window)) (now map) (now queue) (now predecessors) (now route) ⌝ }
-    ensures { λ r. ⌜ judgementOf r ≡ judges (verdict
+    ensures { λ r. ⌜ judgementOf r ≡ judges
+        (verdict
         (boardOf eightSteps (inputsOf query (now (groups .entry)) (now (numbers .entry)) (now (edges .entry)) (now («block_base» .entry))
-        (now («allow_base» .entry)))) (now (selection .entry)))
-        (groundLeft (boardOf eightSteps (inputsOf query (now (groups .entry)) (now (numbers .entry)) (now (edges .entry))
-        (now («block_base» .entry)) (now («allow_base» .entry)))) (now (selection .entry))) ⌝ }
+        (now («allow_base» .entry))))
+        (now (selection .entry)))
+        (groundLeft
+        (boardOf eightSteps (inputsOf query (now (groups .entry)) (now (numbers .entry)) (now (edges .entry)) (now («block_base» .entry))
+        (now («allow_base» .entry))))
+        (now (selection .entry))) ⌝ }
     ensures { λ r. ⌜ FourSame (now (map .entry)) (now (queue .entry)) (now (predecessors .entry)) (now (route .entry)) (now (map .exit))
         (now (queue .exit)) (now (predecessors .exit)) (now (route .exit)) ⌝ }
 {
@@ -171,14 +179,17 @@ fn judge_checked(
 ) -> Judged
     requires { ⌜ first (judgeChecks (inputsOf query (now groups) (now numbers) (now edges) (now «block_base») (now «allow_base»))
         (now selection) (workIn (now counts) (now map) (now queue) (now predecessors) (now route))) ≡ none ⌝ }
-    ensures { λ r. ⌜ judgeCall eightSteps (inputsOf query (now (groups .entry)) (now (numbers .entry)) (now (edges .entry))
-        (now («block_base» .entry)) (now («allow_base» .entry))) (now (selection .entry))
+    ensures { λ r. ⌜
+        judgeCall eightSteps
+        (inputsOf query (now (groups .entry)) (now (numbers .entry)) (now (edges .entry))
+        (now («block_base» .entry)) (now («allow_base» .entry)))
+        (now (selection .entry))
         (workIn (now (counts .entry)) (now (map .entry)) (now (queue .entry)) (now (predecessors .entry)) (now (route .entry)))
         ≡ record {
           answer = judgementOf r;
-          work = workIn (now (counts .exit)) (now (map .exit)) (now (queue .exit))
-              (now (predecessors .exit)) (now (route .exit));
-        } ⌝ }
+          work = workIn (now (counts .exit)) (now (map .exit)) (now (queue .exit)) (now (predecessors .exit)) (now (route .exit));
+        }
+        ⌝ }
 {
     let window = query.window;
     call_clear::clear_work(window, counts, map, queue, predecessors, route);
@@ -213,14 +224,17 @@ pub fn judge(
     predecessors: &mut [u32],
     route: &mut [u32],
 ) -> Judged
-    ensures { λ r. ⌜ judgeCall eightSteps (inputsOf query (now (groups .entry)) (now (numbers .entry)) (now (edges .entry))
-        (now («block_base» .entry)) (now («allow_base» .entry))) (now (selection .entry))
+    ensures { λ r. ⌜
+        judgeCall eightSteps
+        (inputsOf query (now (groups .entry)) (now (numbers .entry)) (now (edges .entry))
+        (now («block_base» .entry)) (now («allow_base» .entry)))
+        (now (selection .entry))
         (workIn (now (counts .entry)) (now (map .entry)) (now (queue .entry)) (now (predecessors .entry)) (now (route .entry)))
         ≡ record {
           answer = judgementOf r;
-          work = workIn (now (counts .exit)) (now (map .exit)) (now (queue .exit))
-              (now (predecessors .exit)) (now (route .exit));
-        } ⌝ }
+          work = workIn (now (counts .exit)) (now (map .exit)) (now (queue .exit)) (now (predecessors .exit)) (now (route .exit));
+        }
+        ⌝ }
 {
     let room = WorkLengths {
         counts: counts.len(),

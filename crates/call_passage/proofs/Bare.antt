@@ -1,19 +1,18 @@
 -- The checks of a board's route, with no placement on it, are those over the baseline: the empty set leaves open just what the baseline does.
 use mathlib.Core.Path.{_≡_, refl, fun-ext}
 use mathlib.Core.Bool.{Bool, true, false, not, _&&_}
-use mathlib.Core.Option.{Option}
 use mathlib.Core.List.{List, []}
 use Prim.Native.Nat.{ℕ}
 use lib.Dec.{eqb}
 use lib.ListN.{getD}
 use Rattle.base_laws.specs.Lists.{anyOf}
-use Rattle.base_model.specs.Answers.{Said, first}
+use Rattle.base_model.specs.Answers.{first}
 use Rattle.base_model.specs.declared.Rect.{Rect}
 use Rattle.base_model.specs.declared.Bounds.{Bounds}
 use Rattle.base_model.specs.declared.Placement.{Placement}
 use Rattle.rule_routes.specs.Edges.{Step}
 use Rattle.route_find.specs.Ground.{openIn}
-use Rattle.rule_layouts.specs.Boards.{Mover, Board, leavesOpen, routePast}
+use Rattle.rule_layouts.specs.Boards.{leavesOpen, routePast}
 use Rattle.rule_layouts.specs.Inputs.{Inputs, moverOf, boardOf}
 use Rattle.rule_calls.specs.Checks.{routeChecks}
 use Rattle.call_passage.specs.Passages.{routeOver, passageOver}

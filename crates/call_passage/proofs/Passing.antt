@@ -1,9 +1,9 @@
--- What the search for a routes.route over a baseline comes to, as the three checks give it; and an area of zeros into which a routes.route was laid is zero again when its first
+-- What the search for a route over a baseline comes to, as the three checks give it; and an area of zeros into which a route was laid is zero again when its first
 -- entries are cleared.
-use mathlib.Core.Path.{_≡_, refl, sym, ap, _∙_, subst}
+use mathlib.Core.Path.{_≡_, refl, ap, _∙_, subst}
 use mathlib.Core.Bool.{true, false, true≢false}
 use mathlib.Core.Option.{Option, none, some}
-use mathlib.Core.List.{List, [], _∷_, _++_}
+use mathlib.Core.List.{List, _++_}
 use Prim.Native.Nat.{ℕ, _+_, _-_, _*_, _≤_}
 use native.Mathlib.Omega.{arith}
 use lib.Dec.{ltb}
@@ -11,7 +11,7 @@ use borrow.Author.Tests.{lt-ltb}
 use lib.ListN.{length, take, drop, replicate, length-append}
 use Rattle.base_laws.specs.Lists.{isSome}
 use Rattle.base_laws.proofs.Stores.{laid-cleared}
-use Rattle.base_model.specs.Answers.{Said, refusal, ask, first}
+use Rattle.base_model.specs.Answers.{refusal, ask, first}
 use Rattle.base_model.specs.declared.Rect.{Rect}
 use Rattle.base_model.specs.declared.Position.{Position}
 use Rattle.ground_rects.specs.Windows.{width, height, centres, windowFits, inWindow, centreAt}
@@ -54,18 +54,18 @@ module _ (steps : List Step) (w : Rect) (start end : Position) (base : List ℕ)
       route-is-road (windowEdges (width w) (height w) steps) (width w * height w) (window-within (width w) (height w) steps) (openIn base) (centreAt w start) (centreAt w end)
       (unfold centres in centreAt-below w start i) r e .short
 
-  -- the routes.route fits into the window's centres
+  -- the route fits into the window's centres
   pub route-fits : windowFits 8192 8192 w ≡ true → inWindow w start ≡ true → pointCount (routeOver steps w start end base) ≤ centres w
   route-fits h i = fits h i (routeOver steps w start end base) refl
 
--- an area of zeros is as it was when the routes.route that was laid into it is cleared
+-- an area of zeros is as it was when the route that was laid into it is cleared
 route-cleared : (c : ℕ) (route : List ℕ) → take c route ≡ replicate c 0 → (o : Option (List ℕ)) → pointCount o ≤ c
     → replicate (pointCount o) 0 ++ drop (pointCount o) (laidInto o route) ≡ route
 unfolding pointCount laidInto
 route-cleared c route z none h = refl
 route-cleared c route z (some r) h = laid-cleared 0 c route z r h
 
--- ---- the call of the search for a routes.route, on areas that are ready
+-- ---- the call of the search for a route, on areas that are ready
 module _ (steps : List Step) {w : Rect} {start end : Position} {base queue predecessors route : List ℕ} (r : PassageReady w start end base queue predecessors route)
     (m n from to : ℕ) (across : m ≡ width w) (down : n ≡ height w) (starts : from ≡ centreAt w start) (ends : to ≡ centreAt w end) where
   pub route-ready : Window base m n × LentAll (m * n) from to queue predecessors route
@@ -79,7 +79,7 @@ module _ (steps : List Step) {w : Rect} {start end : Position} {base queue prede
         record { working = record { queueClear = r .queueClear; predecessorsClear = r .predecessorsClear; startBelow = s }; endBelow = e; routeRoom = clear-room (centres w) route (r .routeClear) },
       )
 
-  -- what the search finds is the routes.route over the baseline
+  -- what the search finds is the route over the baseline
   over : routes.route (windowEdges m n steps) (m * n) (openIn base) from to ≡ routeOver steps w start end base
   unfolding routeOver centres
   over = rw (across, down, starts, ends) refl

@@ -14,12 +14,12 @@ use Rattle.rule_routes.specs.Edges.{Step, windowEdges}
 use Rattle.rule_routes.specs.Routes as routes
 use Rattle.route_find.specs.Ground.{openIn}
 
--- the routes.route over the baseline alone
+-- the route over the baseline alone
 unfoldable pub routeOver : List Step → Rect → Position → Position → List ℕ → Option (List ℕ)
 routeOver steps w start end base =
     routes.route (windowEdges (width w) (height w) steps) (centres w) (openIn base) (centreAt w start) (centreAt w end)
 
--- 7: start blocked; 8: end blocked; 9: no routes.route exists
+-- 7: start blocked; 8: end blocked; 9: no route exists
 unfoldable pub passageOver : List Step → Rect → Position → Position → List ℕ → Option Said
 passageOver steps w start end base =
     first (ask 7 (openIn base (centreAt w start)) ∷ ask 8 (openIn base (centreAt w end)) ∷ ask 9 (isSome (routeOver steps w start end base)) ∷ [])

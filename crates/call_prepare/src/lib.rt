@@ -81,14 +81,17 @@ fn prepare_checked(
 ) -> Answer
     requires { ⌜ first (prepareChecks (preparation across down (now cells) (now obstacles) window start end mover) (now baseline)
         (workIn (now counts) (now map) (now queue) (now predecessors) (now route))) ≡ none ⌝ }
-    ensures { λ r. ⌜ prepareCall eightSteps (preparation across down (now (cells .entry)) (now (obstacles .entry)) window start end mover)
-        (now (baseline .entry)) (workIn (now (counts .entry)) (now (map .entry)) (now (queue .entry)) (now (predecessors .entry))
-        (now (route .entry))) ≡ record {
+    ensures { λ r. ⌜
+        prepareCall eightSteps
+        (preparation across down (now (cells .entry)) (now (obstacles .entry)) window start end mover)
+        (now (baseline .entry))
+        (workIn (now (counts .entry)) (now (map .entry)) (now (queue .entry)) (now (predecessors .entry)) (now (route .entry)))
+        ≡ record {
           answer = replyOf r;
           baseline = now (baseline .exit);
-          work = workIn (now (counts .exit))
-              (now (map .exit)) (now (queue .exit)) (now (predecessors .exit)) (now (route .exit));
-        } ⌝ }
+          work = workIn (now (counts .exit)) (now (map .exit)) (now (queue .exit)) (now (predecessors .exit)) (now (route .exit));
+        }
+        ⌝ }
 {
     let c = ground_rects::width(window) * ground_rects::height(window);
     base_areas::clear_bytes(map, c);
@@ -141,14 +144,17 @@ pub fn prepare(
     predecessors: &mut [u32],
     route: &mut [u32],
 ) -> Answer
-    ensures { λ r. ⌜ prepareCall eightSteps (preparation across down (now (cells .entry)) (now (obstacles .entry)) window start end mover)
-        (now (baseline .entry)) (workIn (now (counts .entry)) (now (map .entry)) (now (queue .entry)) (now (predecessors .entry))
-        (now (route .entry))) ≡ record {
+    ensures { λ r. ⌜
+        prepareCall eightSteps
+        (preparation across down (now (cells .entry)) (now (obstacles .entry)) window start end mover)
+        (now (baseline .entry))
+        (workIn (now (counts .entry)) (now (map .entry)) (now (queue .entry)) (now (predecessors .entry)) (now (route .entry)))
+        ≡ record {
           answer = replyOf r;
           baseline = now (baseline .exit);
-          work = workIn (now (counts .exit))
-              (now (map .exit)) (now (queue .exit)) (now (predecessors .exit)) (now (route .exit));
-        } ⌝ }
+          work = workIn (now (counts .exit)) (now (map .exit)) (now (queue .exit)) (now (predecessors .exit)) (now (route .exit));
+        }
+        ⌝ }
 {
     let room = WorkLengths {
         counts: counts.len(),

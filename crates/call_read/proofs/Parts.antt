@@ -27,7 +27,8 @@ use Rattle.call_checks.specs.Parts.{frameChecks, areaChecks}
 use Rattle.call_checks.proofs.Asked.{first-then, first-stops, query-parts}
 use Rattle.call_checks.proofs.Passed.{limits-found, frames-found, areas-found}
 use Rattle.call_checks.proofs.Placed.{places-whole}
-use Rattle.call_record.specs.Given.{Rows, ChecksFound}
+use Rattle.call_lists.specs.Lent.{Rows}
+use Rattle.call_record.specs.Given.{ChecksFound}
 use Rattle.call_read.specs.Parts.{queried, lent, recorded}
 
 -- ---- one part after another

@@ -231,10 +231,14 @@ pub fn read<'a>(
     answer: &mut u32,
     index: &mut u32,
 ) -> &'a [u32]
-    ensures { λ r. ⌜ told (readCall (inputsOf query (now (groups .entry)) (now (numbers .entry)) (now (edges .entry))
-        (now («block_base» .entry)) (now («allow_base» .entry))) limits rec k
+    ensures { λ r. ⌜
+        told (readCall
+        (inputsOf query (now (groups .entry)) (now (numbers .entry)) (now (edges .entry))
+        (now («block_base» .entry)) (now («allow_base» .entry)))
+        limits rec k
         (storeIn (now (lists .entry)) (now (visited .entry)) (now (layouts .entry)) (now (points .entry))))
-        ≡ record { points = now r; answer = now (answer .exit); index = now (index .exit) } ⌝ }
+        ≡ record { points = now r; answer = now (answer .exit); index = now (index .exit) }
+        ⌝ }
 {
     let said = read_checks(
         query,

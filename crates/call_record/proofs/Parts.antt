@@ -1,32 +1,32 @@
 -- Check 16 over placements lent flat has the parts that the code looks at.
-use Prim.Native.Nat.{ℕ, zero, suc, _+_, _*_, _/_, _≤_, _<_, min}
-use mathlib.Core.Path.{_≡_, refl, sym, ap, _∙_}
+use Prim.Native.Nat.{ℕ, _*_, _≤_}
+use mathlib.Core.Path.{_≡_, refl, ap, _∙_}
 use mathlib.Core.Bool.{Bool, true, false, not, _&&_, _||_}
-use mathlib.Core.List.{List, map, append-nil, List·Memᴰ}
+use mathlib.Core.List.{List, List·Memᴰ}
 use native.Mathlib.Omega.{arith}
 use lib.Dec.{leb, ltb, eqb}
-use lib.IntN.{ℤ, pos}
-use lib.ListN.{length, getD, take, length-map, List·getD-eq-default}
-use borrow.Author.Tests.{le-leb, leb-true, eq-eqb, eqb-true, ltb-true, ltb-false}
-use Rattle.base_laws.specs.Lists.{allOf, span, below, total}
-use Rattle.base_laws.proofs.Members.{either, both, both-true, all-member, all-true, length-span}
+use lib.IntN.{ℤ}
+use lib.ListN.{length, take}
+use borrow.Author.Tests.{le-leb, leb-true, eq-eqb, eqb-true}
+use Rattle.base_laws.specs.Lists.{allOf, below, total}
+use Rattle.base_laws.proofs.Members.{both, both-true, all-member, all-true}
 use Rattle.base_model.specs.declared.Allow.{Allow}
 use Rattle.base_model.specs.declared.Allow.the-variants.{Nobody, Bounded}
 use Rattle.base_model.specs.declared.Limits.{Limits}
 use Rattle.base_model.specs.declared.Query.{Query}
 use Rattle.base_model.specs.declared.Record.{Record}
-use Rattle.base_model.specs.declared.Placement.{Placement}
-use Rattle.ground_rects.specs.Rects.{intersects}
 use Rattle.ground_rects.specs.Windows.{centres}
 use Rattle.rule_layouts.specs.Boards.{Places}
-use Rattle.rule_layouts.specs.Inputs.{Inputs, noPlace, placesOf}
-use Rattle.rule_layouts.specs.Flat.{rectAt, placementAt, wholes, placementsOf, placesIn, inputsOf}
+use Rattle.rule_layouts.specs.Inputs.{Inputs, placesOf}
+use Rattle.rule_layouts.specs.Flat.{placesIn, inputsOf}
 use Rattle.rule_layouts.proofs.FlatPlaces.{places-count, flat-places}
 use Rattle.rule_search.specs.State.{Running}
 use Rattle.rule_calls.specs.Areas.{Store, numberOf, storeIn}
 use Rattle.rule_calls.specs.RecordCheck.{layoutsFit, rowFits, routesFit, stoodOn, listFits, recordFits}
-use Rattle.call_record.specs.Lent.{figuresFit, capOf, routesPass, entryFits, headFits, stood, listPasses}
-use Rattle.call_record.proofs.Tests.{same-truth, all-same}
+use Rattle.call_rows.specs.Figures.{figuresFit, capOf, routesPass}
+use Rattle.call_rows.proofs.Tests.{same-truth}
+use Rattle.call_lists.specs.Lent.{entryFits, headFits, stood, listPasses}
+use Rattle.call_lists.proofs.Tests.{all-same}
 
 -- ---- the parts of 16
 none-zero : (c : ℕ) (xs : List ℕ) → allOf (λ (n : ℕ). leb n c) xs && allOf (λ (n : ℕ). eqb n 0) xs ≡ allOf (λ (n : ℕ). leb n 0) xs

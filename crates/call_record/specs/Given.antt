@@ -1,23 +1,14 @@
 -- What 16 is given: placements lent flat, and the areas that hold a search.
-use Prim.Native.Nat.{ℕ, _+_, _*_, _≤_, _<_}
+use Prim.Native.Nat.{ℕ, _*_, _≤_}
 use mathlib.Core.Path.{_≡_}
 use mathlib.Core.Bool.{true}
 use mathlib.Core.List.{List}
 use lib.IntN.{ℤ}
-use lib.ListN.{length, getD}
+use lib.ListN.{length}
 use Rattle.base_model.specs.declared.Limits.{Limits}
 use Rattle.base_model.specs.declared.Query.{Query}
 use Rattle.ground_rects.specs.Windows.{windowFits}
-use Rattle.rule_layouts.specs.Flat.{placementsOf}
-use Rattle.rule_layouts.specs.Inputs.{Inputs}
-use Rattle.rule_calls.specs.Areas.{Store}
-
--- the rows hold n placements, each of a group that there is
-pub record Rows (n : ℕ) (groups numbers : List ℕ) (edges : List ℤ) : Type 0 where
-  pub fours : length numbers ≡ 4 * n
-  pub eights : length edges ≡ 8 * n
-  pub few : n ≤ 6144
-  pub grouped : (i : ℕ) → i < n → getD numbers (4 * i + 1) 0 < length groups
+use Rattle.call_lists.specs.Lent.{Rows}
 
 -- what the checks before 16 have found
 pub record ChecksFound (q : Query) (l : Limits) (n : ℕ) (groups numbers : List ℕ) (edges : List ℤ) (lists visited layouts : List ℕ) : Type 0 where

@@ -1,5 +1,4 @@
 -- Small inputs, in an area of twenty bytes unless said, computed by the checker.
-use Prim.Native.Nat.{ℕ}
 use mathlib.Core.Path.{_≡_, refl}
 use mathlib.Core.List.{List, [], _∷_}
 use lib.IntN.{ℤ, pos, negsuc}

@@ -1,22 +1,13 @@
 // An answer of a call, printed.
 use crate::say;
 use crate::stored::Head;
+use crate::words::MOST_NUMBERS;
 use base_model::Answer;
+use base_model::LAYOUTS;
+use base_model::ROW;
 use base_model::Record;
 use base_model::Refusal;
-use base_model::Verdict;
-
-pub fn verdict(v: Verdict) -> u32 {
-    match v {
-        Verdict::Slots => 1,
-        Verdict::Overlap => 2,
-        Verdict::EndCovered => 3,
-        Verdict::Open => 4,
-        Verdict::Spare => 5,
-        Verdict::Shut => 6,
-        Verdict::Wall => 7,
-    }
-}
+use base_model::SLOTS;
 
 // Prints a refusal's number, and the index that goes with 15.
 pub fn say_refusal(r: Refusal) {
@@ -40,20 +31,22 @@ pub fn say_answer(a: Answer) -> u32 {
     }
 }
 
-fn sixfold(n: u32) -> usize {
-    6 * (n as usize)
+// How long an area of lists is: each list has an entry for every placement.
+fn lists_length(places: u32) -> usize {
+    SLOTS * (places as usize)
 }
 
-fn sevenfold(n: u32) -> usize {
-    7 * (n as usize)
+// How long an area of so many rows is.
+fn rows_length(n: u32) -> usize {
+    ROW * (n as usize)
 }
 
-fn six(h: u32, xs: &[u32; 6]) -> u32 {
-    say::words(h, xs, 6)
+fn slots_digest(h: u32, xs: &[u32; SLOTS]) -> u32 {
+    say::words(h, xs, SLOTS)
 }
 
-fn thirty_two(h: u32, xs: &[u32; 32]) -> u32 {
-    say::words(h, xs, 32)
+fn layouts_digest(h: u32, xs: &[u32; LAYOUTS]) -> u32 {
+    say::words(h, xs, LAYOUTS)
 }
 
 // Prints a record and the digest of its rows and of the areas up to their lengths.
@@ -75,46 +68,47 @@ pub fn show(
     let nexts = rec.nexts;
     let routes = rec.routes;
     let limits = head.limits;
-    let a = say::shorts(0, lists, sixfold(head.places));
-    let b = say::shorts(a, visited, sevenfold(limits.states));
-    let c = say::shorts(b, layouts, sevenfold(limits.results));
+    let a = say::shorts(0, lists, lists_length(head.places));
+    let b = say::shorts(a, visited, rows_length(limits.states));
+    let c = say::shorts(b, layouts, rows_length(limits.results));
     let d = say::words(c, points, head.points as usize);
-    let e = six(d, &lengths);
-    let f = six(e, &nexts);
-    say::number(thirty_two(f, &routes));
+    let e = slots_digest(d, &lengths);
+    let f = slots_digest(e, &nexts);
+    say::number(layouts_digest(f, &routes));
     say::end();
 }
 
 // Whether prepare wrote the baseline: it did not where it refused with 1 to 6.
-pub fn writes(number: u32) -> bool {
-    if number == 0 {
-        return true;
+pub fn writes(answer: Answer) -> bool {
+    match answer {
+        Answer::Done => true,
+        Answer::Refused(r) => base_model::refusal_number(Refusal::AreaTooShort)
+            < base_model::refusal_number(r),
     }
-    6 < number
 }
 
 // The members of a row: its length, at most 6, and so many entries.
 pub fn members<'a>(rows: &'a [u16], k: usize) -> &'a [u16] {
-    if 4096 < k {
+    if MOST_NUMBERS < k {
         return &rows[0..0];
     }
-    let at = 7 * k;
-    if rows.len() < at + 7 {
+    let at = ROW * k;
+    if rows.len() < at + ROW {
         return &rows[0..0];
     }
-    let n = rows[at];
-    if 6 < n {
+    let n = base_model::member(rows[at]);
+    if SLOTS < n {
         return &rows[0..0];
     }
     let from = at + 1;
-    let to = from + n as usize;
+    let to = from + n;
     &rows[from..to]
 }
 
 // How many rows stand in a row of selections.
 pub fn rows_of(n: usize) -> u32 {
-    if 4096 < n {
+    if MOST_NUMBERS < n {
         return 0;
     }
-    (n / 7) as u32
+    (n / ROW) as u32
 }

@@ -1,6 +1,9 @@
 // Lines of decimal numbers, read into one area for each width.
 ghost use Prim.Native.Nat.{_≤_};
 
+// The most numbers that are kept of a line.
+pub const MOST_NUMBERS: usize = 4096;
+
 // How far a line was read: how many numbers stand on it, the place after it, and whether it holds anything but numbers.
 pub struct Span {
     pub count: usize,
@@ -82,12 +85,12 @@ fn short_of(x: u32) -> u16 {
 fn put(
     w: Word,
     k: usize,
-    unsigned: &mut [u32; 4096],
-    signed: &mut [i32; 4096],
-    bytes: &mut [u8; 4096],
-    shorts: &mut [u16; 4096],
+    unsigned: &mut [u32; MOST_NUMBERS],
+    signed: &mut [i32; MOST_NUMBERS],
+    bytes: &mut [u8; MOST_NUMBERS],
+    shorts: &mut [u16; MOST_NUMBERS],
 ) {
-    if 4096 <= k {
+    if MOST_NUMBERS <= k {
         return;
     }
     let x = word_of(w);
@@ -101,10 +104,10 @@ fn put(
 pub fn line(
     s: &[u8],
     at: usize,
-    unsigned: &mut [u32; 4096],
-    signed: &mut [i32; 4096],
-    bytes: &mut [u8; 4096],
-    shorts: &mut [u16; 4096],
+    unsigned: &mut [u32; MOST_NUMBERS],
+    signed: &mut [i32; MOST_NUMBERS],
+    bytes: &mut [u8; MOST_NUMBERS],
+    shorts: &mut [u16; MOST_NUMBERS],
 ) -> Span {
     let mut k = 0;
     let mut i = at;
@@ -153,9 +156,9 @@ pub fn edge_at(xs: &[i32], i: usize) -> i32 {
 pub fn count_at(xs: &[u32], i: usize) -> usize
     ensures { λ r. ⌜ r ≤ 4096 ⌝ }
 {
-    let x = at(xs, i);
-    if 4096 < x {
-        return 4096;
+    let n = at(xs, i) as usize;
+    if MOST_NUMBERS < n {
+        return MOST_NUMBERS;
     }
-    x as usize
+    n
 }

@@ -1,6 +1,6 @@
 -- Where the steps of a table lead: the definition's edges, by the cases that the code tells apart.
 use mathlib.Core.Path.{_≡_, refl, sym, ap, _∙_, subst}
-use mathlib.Core.Bool.{Bool, true, false, _&&_, _||_, true≢false, and-true, and-false, or-true}
+use mathlib.Core.Bool.{Bool, true, false, _&&_, true≢false, and-true, and-false, or-true}
 use mathlib.Core.List.{List, [], _∷_, _++_, map, map-append, List·Memᴰ, List·Memᴰ·not-nil, List·Memᴰ·append-cases, List·Memᴰ·eq-of-singleton}
 use mathlib.Core.Logic.{⊎-elim}
 use Prim.Native.Nat.{ℕ, zero, suc, _+_, _*_, _/_, _%_, _≤_, _<_}

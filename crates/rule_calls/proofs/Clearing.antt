@@ -1,7 +1,7 @@
 -- Clearing the unused entries leaves what was read, laid out.
 use Prim.Native.Nat.{ℕ, suc, _+_, _-_, _*_, _≤_, _<_}
 use mathlib.Core.Path.{_≡_, sym, _∙_, ap}
-use mathlib.Core.List.{List, [], _∷_, _++_, map, reverse, reverse-reverse, map-map}
+use mathlib.Core.List.{List, _∷_, _++_, map, reverse, reverse-reverse, map-map}
 use native.Mathlib.Omega.{arith}
 use native.Mathlib.Nat.{suc-mul, zero-mul, mul-comm}
 use native.Mathlib.Numerals.{add-one}

@@ -5,7 +5,6 @@ use mathlib.Core.Path.{_≡_, refl}
 use mathlib.Core.Option.{some}
 use mathlib.Core.List.{List, [], _∷_, map}
 use lib.ListN.{replicate}
-use Rattle.base_model.specs.Answers.{Said}
 use Rattle.base_model.specs.declared.Allow.the-variants.{Nobody, Bounded}
 use Rattle.base_model.specs.declared.Limits.{Limits}
 use Rattle.rule_routes.specs.Edges.{eightSteps}

@@ -10,8 +10,6 @@ use Rattle.base_model.specs.Answers.{Said}
 use Rattle.base_model.specs.declared.Rect.{Rect}
 use Rattle.base_model.specs.declared.Bounds.{Bounds}
 use Rattle.base_model.specs.declared.Position.{Position}
-use Rattle.base_model.specs.declared.Placement.{Placement}
-use Rattle.base_model.specs.declared.Allow.{Allow}
 use Rattle.base_model.specs.declared.Allow.the-variants.{Nobody, Bounded}
 use Rattle.base_model.specs.declared.Limits.{Limits}
 use Rattle.base_model.specs.declared.Refusal.the-variants.{PlacementInvalid}
@@ -20,8 +18,8 @@ use Rattle.base_model.specs.declared.Judged.the-variants.{Verdict as AVerdict, 
 use Rattle.rule_routes.specs.Edges.{eightSteps}
 use Rattle.rule_layouts.specs.Inputs.{Inputs}
 use Rattle.rule_layouts.specs.Flat.{placementsOf}
-use Rattle.rule_calls.specs.Areas.{Work, Store}
-use Rattle.rule_calls.specs.Calls.{Prepared, prepareCall, After, noRecord, beginCall, Judgement, judges, refuses, judgementOf, AfterJudge, judgeCall}
+use Rattle.rule_calls.specs.Areas.{Work}
+use Rattle.rule_calls.specs.Calls.{Prepared, prepareCall, After, noRecord, beginCall, judges, refuses, judgementOf, AfterJudge, judgeCall}
 use Rattle.rule_calls.proofs.Computing.{computing}
 use Rattle.rule_calls.proofs.Drive.{Row, _gives_, gots, wants, at, box, bounds, place, plain, limits, workFor, storeFor, begins, still0, W, refusedBy, given, open0, alone, good, driving}
 

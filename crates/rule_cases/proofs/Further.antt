@@ -29,7 +29,6 @@ use Rattle.rule_calls.proofs.Drive.{
   Shown,
   judged,
   result,
-  refusedWith,
   still0,
   Case,
   drive,

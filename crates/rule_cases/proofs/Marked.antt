@@ -1,5 +1,4 @@
 -- The marked cases (RULES 9.8), one table, computed by the checker through the calls.
-use Prim.Native.Nat.{ℕ}
 use mathlib.Core.Path.{_≡_, refl}
 use mathlib.Core.List.{List, [], _∷_}
 use lib.ListN.{replicate}

@@ -1,7 +1,7 @@
 -- Small boards, computed by the checker.
 use Prim.Native.Nat.{ℕ, zero, suc, _*_}
 use mathlib.Core.Path.{_≡_, refl}
-use mathlib.Core.Bool.{Bool, true, false, not}
+use mathlib.Core.Bool.{Bool, true, false}
 use mathlib.Core.Option.{Option, none, some}
 use mathlib.Core.List.{List, [], _∷_}
 use lib.Dec.{eqb}
@@ -10,7 +10,7 @@ use Rattle.base_model.specs.declared.Verdict.the-variants.{Slots, Overlap, EndC
 use Rattle.rule_routes.specs.Edges.{stepBy, eightSteps, eqZ, centre, inside, sidesFrom, edgeBy, edgesFrom, windowEdges}
 use Rattle.rule_routes.specs.Routes.{neighbours, known, onward, discover, sweep, searchFrom, anyRoute, nodesOf, route, sidesOf, leansOn}
 use Rattle.rule_layouts.specs.Boards.{Mover, Board, used, mayJoin, leavesOpen, openEnds, routePast}
-use Rattle.rule_layouts.specs.Explore.{Outcome, Nothing, Extend, Wall, touches, extensions, isMinimalBlock, allowedRoute, wallBy, explore}
+use Rattle.rule_layouts.specs.Explore.{Nothing, Extend, Wall, touches, extensions, isMinimalBlock, allowedRoute, wallBy, explore}
 use Rattle.rule_layouts.specs.Judge.{overSlots, overlaps, verdict, groundLeft}
 
 -- a name under which an evaluation unfolds

@@ -1,16 +1,16 @@
 -- Lists in their places, and the set that stands on them, looked at in order of making.
 use Prim.Native.Nat.{ℕ, zero, suc, _+_, _-_, _*_, _≤_, _<_}
 use mathlib.Core.Path.{_≡_, refl, sym, _∙_, ap, subst}
-use mathlib.Core.List.{List, [], _∷_, _++_, map, reverse, reverse-append, append-assoc, List·Memᴰ}
+use mathlib.Core.List.{List, [], _∷_, _++_, map, reverse, reverse-append, List·Memᴰ}
 use native.Mathlib.Omega.{arith}
 use native.Mathlib.Numerals.{add-one}
 use native.Mathlib.Nat.{suc-mul, mul-le-mul-right}
-use lib.ListN.{length, take, drop, getD, length-append, length-map, length-reverse, List·getD-append, List·getD-map}
+use lib.ListN.{length, take, getD, length-append, length-map, length-reverse, List·getD-append, List·getD-map}
 use lib.Seq.{take-suc, take-all, length-take-le}
 use Rattle.base_laws.specs.Lists.{flat, padded, putIn}
 use Rattle.base_laws.specs.Fill.{zeros}
 use Rattle.base_laws.proofs.Members.{getD-member}
-use Rattle.base_laws.proofs.Stores.{length-zeros, length-padded}
+use Rattle.base_laws.proofs.Stores.{length-padded}
 use Rattle.rule_search.specs.State.{Extensions, lastTaken, setOn}
 use Rattle.rule_search.proofs.Formed.{length-setOn}
 use Rattle.rule_calls.specs.Areas.{row}

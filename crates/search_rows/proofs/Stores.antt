@@ -1,6 +1,6 @@
 -- What a store does to an area whose used entries are followed by zeros: `padded-put` writes at the end of what is used, `padded-trail` takes zeros at the
 -- end of the used entries for unused ones.
-use Prim.Native.Nat.{ℕ, _+_, _-_, _≤_, _<_}
+use Prim.Native.Nat.{ℕ, _+_, _-_, _≤_}
 use mathlib.Core.Path.{_≡_, refl, sym, _∙_, ap}
 use mathlib.Core.List.{List, [], _∷_, _++_, append-assoc, append-nil}
 use native.Mathlib.Omega.{arith}
@@ -9,10 +9,6 @@ use lib.Seq.{drop-append-add, drop-append-le, drop-at, take-at, getD-at}
 use Rattle.base_laws.specs.Lists.{padded}
 use Rattle.base_laws.specs.Fill.{zeros, over}
 use Rattle.base_laws.proofs.Stores.{length-zeros, drop-replicate, length-padded, over-sets, over-after}
-
-pub padded-none : (n : ℕ) → padded n [] ≡ zeros n
-unfolding padded
-padded-none n = ap zeros (let z : n - 0 ≡ n = omega arith in z)
 
 module _ (n : ℕ) (xs ys zs rest : List ℕ) where
   -- the entries from the end of xs on are stored anew: one more entry, a row, or the last entry changed

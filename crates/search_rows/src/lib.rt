@@ -168,8 +168,8 @@ pub fn route_positions(points: &mut [u32], at: usize, route: &[u32], n: usize, w
     requires { ⌜ windowFits 8192 8192 window ≡ true ⌝ }
     requires { ⌜ (at + 2 * n ≤ length (now points)) × (n ≤ length (now route)) ⌝ }
     requires { ⌜ ((i : ℕ) → i < n → getD (now route) i 0 < centres window) ⌝ }
-    ensures { λ _. ⌜ now (points .exit) ≡ over (now (points .entry)) at (numbers (map (positionOf window) (take n (now
-        (route .entry))))) ⌝ }
+    ensures { λ _. ⌜ now (points .exit)
+        ≡ over (now (points .entry)) at (numbers (map (positionOf window) (take n (now (route .entry))))) ⌝ }
 {
     let mut i = 0;
     while i < n {

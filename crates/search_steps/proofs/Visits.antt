@@ -33,7 +33,7 @@ use Rattle.search_turn.specs.Portion.{stackOf, Part, Ripe, keptIn, Listable, Lo
 use Rattle.search_turn.proofs.Laying.{Summed, summed, as-pending, length-stack}
 use Rattle.search_turn.proofs.Sights.{part-stood, behind, length-laid}
 use Rattle.set_explore.specs.declared.Explored as answer
-use Rattle.set_explore.specs.Ready.{Ready}
+use Rattle.set_board.specs.Ready.{Ready}
 use Rattle.set_explore.specs.Evaluation.{outcomeOf, outcomeNumber, sizeOf, listAfter, routeAfter, Evaluated}
 use Rattle.rule_search.specs.Formed.{Fresh, FormedLists}
 use Rattle.search_steps.specs.Terms.{Terms, inputsUnder, countIn, boardIn, planIn, Given, Holds}

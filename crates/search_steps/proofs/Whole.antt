@@ -6,7 +6,7 @@ use mathlib.Core.Bool.{true, false}
 use mathlib.Core.List.{List, [], _∷_, _++_, map}
 use native.Mathlib.Omega.{arith}
 use native.Mathlib.Nat.{mul-le-mul-right}
-use lib.ListN.{length, take, drop, length-map, take-append-drop}
+use lib.ListN.{length, take, drop, length-map}
 use Rattle.base_laws.specs.Lists.{flat, padded}
 use Rattle.base_laws.specs.Fill.{zeros, over}
 use Rattle.base_laws.proofs.Stores.{drop-replicate, length-padded, over-part, part-same}

@@ -19,7 +19,7 @@ use Rattle.rule_search.specs.Frames.{Plan}
 use Rattle.rule_calls.specs.Areas.{Store, recordOf, storeOf}
 use Rattle.rule_calls.specs.Calls.{planOf}
 use Rattle.search_turn.specs.Portion.{Sound, Ripe}
-use Rattle.set_explore.specs.Ready.{Ready}
+use Rattle.set_board.specs.Ready.{Ready}
 use Rattle.rule_search.specs.Formed.{Good}
 
 -- what stays the same in a call

@@ -15,7 +15,7 @@ use search_turn::seek;
 use set_explore::Explored;
 use set_explore::explore;
 ghost use Rattle.ground_rects.specs.Windows.{centres};
-ghost use Rattle.set_explore.specs.Ready.{Blank};
+ghost use Rattle.set_board.specs.Ready.{Blank};
 ghost use Rattle.search_steps.specs.Terms.{terms, HoldsSome, HoldsRipe};
 ghost use Rattle.search_steps.specs.Turned.{StepsTo, VisitsTo};
 ghost use Rattle.rule_calls.specs.Areas.{storeIn};
@@ -43,12 +43,13 @@ fn visit(
     requires { ⌜ HoldsRipe (terms query (now groups) (now numbers) (now edges) (now «block_base») (now «allow_base») (now steps) limits) rec
         (storeIn (now lists) (now visited) (now layouts) (now points)) ⌝ }
     requires { ⌜ Blank (centres (query .window)) (now map) (now queue) (now predecessors) (now route) ⌝ }
-    ensures { λ r. ⌜ VisitsTo (terms query (now (groups .entry)) (now (numbers .entry)) (now (edges .entry)) (now («block_base» .entry))
-        (now («allow_base» .entry)) (now (steps .entry)) limits) rec
-        (storeIn (now (lists .entry)) (now (visited .entry)) (now (layouts .entry)) (now (points .entry))) r
-        (storeIn (now (lists .exit)) (now (visited .exit)) (now (layouts .exit)) (now (points .exit))) ⌝ }
-    ensures { λ r. ⌜ Blank (centres (query .window)) (now (map .exit)) (now (queue .exit)) (now (predecessors .exit)) (now
-        (route .exit)) ⌝ }
+    ensures { λ r. ⌜ VisitsTo
+        (terms query (now (groups .entry)) (now (numbers .entry)) (now (edges .entry)) (now («block_base» .entry))
+        (now («allow_base» .entry)) (now (steps .entry)) limits)
+        rec (storeIn (now (lists .entry)) (now (visited .entry)) (now (layouts .entry)) (now (points .entry)))
+        r (storeIn (now (lists .exit)) (now (visited .exit)) (now (layouts .exit)) (now (points .exit))) ⌝ }
+    ensures { λ r. ⌜ Blank (centres (query .window)) (now (map .exit)) (now (queue .exit)) (now (predecessors .exit))
+        (now (route .exit)) ⌝ }
 {
     let count = bounded(rec.lists);
     let n = bounded(rec.placements);
@@ -104,12 +105,13 @@ pub fn steps(
     requires { ⌜ HoldsSome (terms query (now groups) (now numbers) (now edges) (now «block_base») (now «allow_base») (now steps) limits) rec
         (storeIn (now lists) (now visited) (now layouts) (now points)) ⌝ }
     requires { ⌜ Blank (centres (query .window)) (now map) (now queue) (now predecessors) (now route) ⌝ }
-    ensures { λ r. ⌜ StepsTo (terms query (now (groups .entry)) (now (numbers .entry)) (now (edges .entry)) (now («block_base» .entry))
-        (now («allow_base» .entry)) (now (steps .entry)) limits) n rec
-        (storeIn (now (lists .entry)) (now (visited .entry)) (now (layouts .entry)) (now (points .entry))) r
-        (storeIn (now (lists .exit)) (now (visited .exit)) (now (layouts .exit)) (now (points .exit))) ⌝ }
-    ensures { λ r. ⌜ Blank (centres (query .window)) (now (map .exit)) (now (queue .exit)) (now (predecessors .exit)) (now
-        (route .exit)) ⌝ }
+    ensures { λ r. ⌜ StepsTo
+        (terms query (now (groups .entry)) (now (numbers .entry)) (now (edges .entry)) (now («block_base» .entry))
+        (now («allow_base» .entry)) (now (steps .entry)) limits)
+        n rec (storeIn (now (lists .entry)) (now (visited .entry)) (now (layouts .entry)) (now (points .entry)))
+        r (storeIn (now (lists .exit)) (now (visited .exit)) (now (layouts .exit)) (now (points .exit))) ⌝ }
+    ensures { λ r. ⌜ Blank (centres (query .window)) (now (map .exit)) (now (queue .exit)) (now (predecessors .exit))
+        (now (route .exit)) ⌝ }
 {
     let places = bounded(rec.placements);
     let mut r = rec;

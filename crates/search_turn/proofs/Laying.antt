@@ -1,28 +1,27 @@
 -- A state laid out in record and areas: its numbers, and what a list taken from, gone or made does to the record and to the lists' area.
-use Prim.Native.Nat.{ℕ, zero, suc, _+_, _-_, _*_, _≤_, _<_}
+use Prim.Native.Nat.{ℕ, suc, _+_, _-_, _*_, _≤_, _<_}
 use mathlib.Core.Path.{_≡_, refl, sym, _∙_, ap, ap₂, subst}
 use mathlib.Core.Bool.{Bool, true, false}
 use mathlib.Core.Logic.{⊎-elim}
-use mathlib.Core.List.{List, [], _∷_, _++_, map, map-append, reverse, reverse-cons, append-assoc, append-nil, List·Memᴰ, List·Memᴰ·head, List·Memᴰ·not-nil, List·Memᴰ·cases-cons, Memᴰ·cast}
+use mathlib.Core.List.{List, [], _∷_, _++_, map, map-append, reverse, reverse-cons, List·Memᴰ, List·Memᴰ·not-nil, List·Memᴰ·cases-cons}
 use native.Mathlib.Omega.{arith}
 use native.Mathlib.Numerals.{add-one}
 use native.Mathlib.Nat.{suc-mul, mul-le-mul-right}
-use lib.ListN.{length, take, drop, getD, set, length-append, length-map, length-reverse}
+use lib.ListN.{length, drop, getD, set, length-map, length-reverse}
 use Rattle.base_laws.specs.Lists.{flat, padded}
 use Rattle.base_laws.specs.Fill.{zeros, over}
 use Rattle.base_laws.proofs.Members.{reverse-member}
-use Rattle.base_laws.proofs.Stores.{length-zeros, length-padded}
+use Rattle.base_laws.proofs.Stores.{length-padded}
 use Rattle.base_model.specs.declared.Record.{Record}
 use Rattle.rule_layouts.specs.Boards.{Board}
 use Rattle.rule_search.specs.State.{Reason, Running, Exhausted, StateLimit, ResultLimit, Extensions, Layout, State, state, stop}
-use Rattle.rule_search.specs.Frames.{Plan}
 use Rattle.rule_search.proofs.Moves.{held, taking}
-use Rattle.rule_calls.specs.Areas.{numberOf, laid, row, recordOf}
+use Rattle.rule_calls.specs.Areas.{numberOf, laid, recordOf}
 use Rattle.search_rows.specs.Lay.{ListUsed}
-use Rattle.search_rows.proofs.Stores.{padded-add, padded-cut, padded-set, padded-trail, padded-last}
+use Rattle.search_rows.proofs.Stores.{padded-cut, padded-set, padded-trail, padded-last}
 use Rattle.base_laws.proofs.Blocks.{flat-snoc, length-flat}
 use Rattle.rule_search.specs.Formed.{FormedLists}
-use Rattle.search_turn.specs.Portion.{stackOf, stopRec, seenRec, takenRec, poppedRec, pushedRec}
+use Rattle.search_turn.specs.Portion.{stackOf, stopRec, seenRec, takenRec, poppedRec}
 
 -- ---- the numbers of a record
 pub record Summed (n : ℕ) (s : State) (r : Record) : Type 0 where

@@ -1,7 +1,7 @@
 -- The looks after a frame, on the record.
 use Prim.Native.Nat.{ℕ, _≤_, _<_}
 use mathlib.Core.Path.{_≡_, refl, sym, _∙_, ap}
-use mathlib.Core.Bool.{Bool, true, false}
+use mathlib.Core.Bool.{false}
 use mathlib.Core.List.{List, []}
 use native.Mathlib.Omega.{arith}
 use lib.ListN.{length}
@@ -12,7 +12,7 @@ use Rattle.rule_search.specs.Frames.{Plan, look}
 use Rattle.rule_search.proofs.Moves.{held, Looked, on, atResults, noneLeft, atStates, looked-is}
 use Rattle.rule_calls.specs.Areas.{numberOf, recordOf}
 use Rattle.search_turn.specs.Portion.{stopRec}
-use Rattle.search_turn.proofs.Laying.{Summed, summed, no-lists, record-stop, running-number}
+use Rattle.search_turn.proofs.Laying.{Summed, summed, no-lists, record-stop}
 
 looked-stop : (p : Plan) (s : State) (c : Reason) → s .reason ≡ Running → Looked p (s .pending) (s .lists) (s .visited) (s .layouts) c → look p s ≡ stop c s
 unfolding stop state

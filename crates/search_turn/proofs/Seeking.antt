@@ -1,8 +1,8 @@
 -- Frames up to an evaluation or a stop: what stays true from frame to frame, and the frames left as a number read off the record.
-use Prim.Native.Nat.{ℕ, zero, suc, _+_, _-_, _*_, _≤_, _<_}
-use mathlib.Core.Path.{_≡_, refl, sym, _∙_, ap, subst}
-use mathlib.Core.Bool.{Bool, true, false}
-use mathlib.Core.List.{List, [], _∷_, _++_, map, map-map, reverse}
+use Prim.Native.Nat.{ℕ, _+_, _-_, _*_, _<_}
+use mathlib.Core.Path.{_≡_, refl, sym, _∙_, ap}
+use mathlib.Core.Bool.{true, false}
+use mathlib.Core.List.{List, [], _∷_, map, map-map, reverse}
 use native.Mathlib.Omega.{arith}
 use lib.ListN.{length, getD, length-reverse, List·getD-map}
 use Rattle.base_laws.specs.Lists.{below, total, padded}
@@ -15,7 +15,7 @@ use Rattle.rule_search.specs.Frames.{Plan, advance}
 use Rattle.rule_calls.specs.Areas.{recordOf}
 use Rattle.search_rows.proofs.Stacks.{padded-at}
 use Rattle.search_turn.specs.declared.Moved.{Moved}
-use Rattle.search_turn.specs.Portion.{Fitting, Part, SomePart, Ripe, Turned, Sought, framesIn}
+use Rattle.search_turn.specs.Portion.{Fitting, Part, SomePart, Turned, Sought, framesIn}
 use Rattle.search_turn.proofs.Laying.{made-snoc, length-made, longs, nexts}
 
 -- ---- frames left

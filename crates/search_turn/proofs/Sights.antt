@@ -1,11 +1,11 @@
 -- What the look for the pending set among the visited rows asks and tells, of a state that record and areas hold.
-use Prim.Native.Nat.{ℕ, zero, suc, _+_, _-_, _*_, _≤_, _<_}
-use mathlib.Core.Path.{_≡_, refl, sym, _∙_, ap, subst}
-use mathlib.Core.Bool.{Bool, true, false}
-use mathlib.Core.List.{List, [], _∷_, _++_, map, reverse, reverse-reverse, append-assoc, List·Memᴰ}
+use Prim.Native.Nat.{ℕ, _+_, _-_, _*_, _≤_}
+use mathlib.Core.Path.{_≡_, sym, _∙_, ap, subst}
+use mathlib.Core.Bool.{Bool, true}
+use mathlib.Core.List.{List, _++_, reverse, reverse-reverse}
 use native.Mathlib.Omega.{arith}
 use lib.ListN.{length, drop, length-append, length-reverse}
-use Rattle.base_laws.specs.Lists.{flat, padded}
+use Rattle.base_laws.specs.Lists.{padded}
 use Rattle.base_laws.specs.Fill.{zeros}
 use Rattle.base_laws.proofs.Members.{reverse-member}
 use Rattle.base_laws.proofs.Stores.{length-padded}

@@ -1,6 +1,6 @@
 -- A frame of the code that evaluates nothing is a frame of the definition: one law for each exit of `turn`. Each names the move that the frame is, and
 -- shows record and lists to be those of the state to which it leads; the form is kept since every move keeps it.
-use Prim.Native.Nat.{ℕ, zero, suc, _+_, _-_, _*_, _≤_, _<_}
+use Prim.Native.Nat.{ℕ, suc, _+_, _-_, _*_, _≤_, _<_}
 use mathlib.Core.Path.{_≡_, refl, sym, _∙_, ap, subst}
 use mathlib.Core.Bool.{Bool, true, false, true≢false, false≢true}
 use mathlib.Core.List.{List, [], _∷_}
@@ -13,17 +13,15 @@ use Rattle.base_laws.proofs.Sets.{among-true, among-false}
 use Rattle.base_model.specs.declared.Limits.{Limits}
 use Rattle.base_model.specs.declared.Record.{Record}
 use Rattle.rule_layouts.specs.Boards.{Board}
-use Rattle.rule_search.specs.State.{Reason, Running, Exhausted, StateLimit, Extensions, Layout, State, state, stop, setOn, framesLeft}
+use Rattle.rule_search.specs.State.{Running, Exhausted, StateLimit, Extensions, Layout, State, state, stop, setOn}
 use Rattle.rule_search.specs.Frames.{Plan, Frame, goes, ends, frame, look, advance}
 use Rattle.rule_search.specs.Formed.{Good}
-use Rattle.rule_search.proofs.Moves.{after, held, taking, Looked, looks, Move, limited, finished, repeated, spent, taken, move-is, frame-keeps, exhausted-stops, stateLimit-stops}
+use Rattle.rule_search.proofs.Moves.{after, held, taking, looks, limited, finished, repeated, spent, taken, move-is, frame-keeps, exhausted-stops, stateLimit-stops}
 use Rattle.rule_search.proofs.Steps.{goes-falls, advance-goes, advance-ends, frame-stopped}
 use Rattle.rule_search.proofs.Formed.{move-good}
 use Rattle.rule_calls.specs.Areas.{numberOf, laid, recordOf}
-use Rattle.search_turn.specs.declared.Moved.{Moved}
 use Rattle.search_turn.specs.Portion.{stackOf, rowsFlat, Sound, Fitting, Part, SomePart, Ripe, Turned, stopRec, seenRec, takenRec, poppedRec}
 use Rattle.search_turn.proofs.Laying.{
-  Summed,
   summed,
   is-running,
   not-running,

@@ -2,6 +2,7 @@
 use Prim.Native.Nat.{ℕ, zero, suc, _+_, _*_, _/_, _%_, _≤_, _<_}
 use mathlib.Core.Path.{_≡_}
 use mathlib.Core.Bool.{Bool, true, false, not, cond}
+use mathlib.Core.Option.{Option, none, some}
 use mathlib.Core.List.{List, [], _∷_, map, List·Memᴰ}
 use lib.Dec.{eqb}
 use lib.IntN.{ℤ}
@@ -9,6 +10,8 @@ use lib.ListN.{length, getD}
 use Rattle.base_laws.specs.Lists.{below}
 use Rattle.base_model.specs.declared.Rect.{Rect}
 use Rattle.base_model.specs.declared.Bounds.{Bounds}
+use Rattle.base_model.specs.declared.Allow.{Allow}
+use Rattle.base_model.specs.declared.Allow.the-variants.{Nobody, Bounded}
 use Rattle.ground_rects.specs.declared.Span.{Span}
 use Rattle.ground_rects.specs.Rects.{nonempty, small, keepsOff}
 use Rattle.ground_rects.specs.Windows.{centres, pixelX, pixelY}
@@ -31,6 +34,11 @@ moverIn w edges m base = record {
   keptOff = λ i c. keepsOff (rectAt edges (8 * i + 4)) m (pixelX w c) (pixelY w c);
 }
 
+-- the allowed mover, if there is one, that the row keeps off
+unfoldable pub allowIn : Rect → List ℤ → Allow → List ℕ → Option Mover
+allowIn w edges Nobody base = none
+allowIn w edges (Bounded m) base = some (moverIn w edges m base)
+
 -- the set without its member number k; the whole set where it has no such member
 unfoldable pub withoutAt : ℕ → List ℕ → List ℕ
 withoutAt k [] = []
@@ -42,6 +50,11 @@ pub record Ground (w : Rect) (m : Bounds) (cells : List ℕ) : Type 0 where
   pub some : nonempty w ≡ true
   pub slim : small m ≡ true
   pub bytes : length cells ≡ centres w
+
+-- the allowed mover, if there is one, is small, and its baseline has a byte for each centre
+unfoldable pub AllowReady : Rect → Allow → List ℕ → Type 0
+AllowReady w Nobody base = Unit {0}
+AllowReady w (Bounded m) base = (small m ≡ true) × (centres w ≤ length base)
 
 -- every member's edges stand in the row
 pub record Named (edges : List ℤ) (s : List ℕ) : Type 0 where

@@ -1,70 +1,27 @@
 -- What an evaluation comes to, case by case, and how the answers and areas of the code tell it.
 use Prim.Native.Nat.{ℕ}
-use mathlib.Core.Path.{_≡_, refl, sym, ap, ap₂, _∙_, subst}
-use mathlib.Core.Bool.{true, false, _&&_, and-false, true≢false}
+use mathlib.Core.Path.{_≡_, refl, sym, ap, _∙_, subst}
+use mathlib.Core.Bool.{true, false, _&&_, and-false}
 use mathlib.Core.Option.{Option, none, some, Option·none-ne-some}
-use mathlib.Core.List.{List, [], _++_}
-use native.Mathlib.Omega.{arith}
+use mathlib.Core.List.{List, _++_}
 use lib.IntN.{ℤ}
-use lib.ListN.{length, take, drop}
+use lib.ListN.{take, drop}
 use lib.Seq.{take-at}
-use Rattle.base_laws.specs.Lists.{isSome}
 use Rattle.base_laws.proofs.Members.{either}
-use Rattle.base_model.specs.declared.Rect.{Rect}
-use Rattle.base_model.specs.declared.Bounds.{Bounds}
-use Rattle.base_model.specs.declared.Allow.{Allow}
-use Rattle.base_model.specs.declared.Allow.the-variants.{Nobody, Bounded}
 use Rattle.base_model.specs.declared.Query.{Query}
-use Rattle.ground_rects.specs.Windows.{centres}
-use Rattle.set_cover.specs.Cover.{coverOf, moverIn, withoutAt, Named}
-use Rattle.set_cover.proofs.Lifts.{without-at-past}
 use Rattle.rule_routes.specs.Edges.{Step}
 use Rattle.rule_routes.proofs.RouteTheorem.{route-blocked}
 use Rattle.rule_layouts.specs.Boards.{Mover, Board, leavesOpen, openEnds, routePast}
 use Rattle.rule_layouts.specs.Explore.{Outcome, Nothing, Extend, Wall, extensions, isMinimalBlock, allowedRoute, wallBy, explore}
-use Rattle.route_find.specs.Results.{RouteFound, pointCount, laidInto}
+use Rattle.route_find.specs.Results.{pointCount, laidInto}
 use Rattle.set_extend.specs.Join.{ListWritten}
+use Rattle.set_board.specs.Board.{flatBoard}
+use Rattle.set_pass.specs.declared.Passage as passage
+use Rattle.set_pass.specs.Pass.{passed, minimal, allowedPast}
+use Rattle.set_pass.specs.Allowed.{passageOf, passagePoints, Allowed}
+use Rattle.set_pass.proofs.Allowing.{past-cases}
 use Rattle.set_explore.specs.declared.Explored as answer
-use Rattle.set_explore.specs.declared.Passage as passage
-use Rattle.set_explore.specs.Ready.{AllowReady, Moving, passed, minimal, allowedPast, allowIn, flatBoard}
-use Rattle.set_explore.specs.Maps.{mapAfterAllowed}
-use Rattle.set_explore.specs.Evaluation.{outcomeOf, outcomeNumber, sizeOf, listAfter, routeAfter, Evaluated, passageOf, passagePoints, Allowed}
-
--- ---- routes laid into a route
-pub routed-none : (o : Option (List ℕ)) (route route′ : List ℕ) → RouteFound o route route′ 0 → o ≡ none
-unfolding isSome
-routed-none none route route′ t = refl
-routed-none (some p) route route′ t = absurd (true≢false (t .exists))
-
-pub record RouteWritten (o : Option (List ℕ)) (route′ : List ℕ) (r : ℕ) : Type 0 where
-  pub points : List ℕ
-  pub is : o ≡ some points
-  pub number : r ≡ length points
-  pub first : take r route′ ≡ points
-
-pub routed-some : (o : Option (List ℕ)) (route route′ : List ℕ) (r : ℕ) → (r ≡ 0 → ⊥) → RouteFound o route route′ r → RouteWritten o route′ r
-unfolding pointCount laidInto
-routed-some none route route′ r n t = absurd (n (t .count))
-routed-some (some p) route route′ r n t = record {
-  points = p;
-  is = refl;
-  number = t .count;
-  first = ap₂ take (t .count) (t .points) ∙ take-at p (drop (length p) route) (length p) refl;
-}
-
-pub allowed-none : (route : List ℕ) → Allowed (some []) (passage.the-variants.Free 0) route route
-unfolding passageOf passagePoints pointCount laidInto
-allowed-none route = record { is = refl; number = refl; laid = refl }
-
-pub allowed-shut : (o : Option (List ℕ)) (route route′ : List ℕ) (r : ℕ) → r ≡ 0 → RouteFound o route route′ r → Allowed o passage.the-variants.Shut route route′
-unfolding passageOf passagePoints
-allowed-shut o route route′ r e t = record { is = routed-none o route route′ (rw e at t); number = sym e ∙ t .count; laid = t .points }
-
-pub allowed-free : (o : Option (List ℕ)) (route route′ : List ℕ) (r : ℕ) → (r ≡ 0 → ⊥) → RouteFound o route route′ r → Allowed o (passage.the-variants.Free r) route route′
-unfolding passageOf passagePoints
-allowed-free o route route′ r n t =
-    let l = routed-some o route route′ r n t in
-    record { is = l .is ∙ ap some (sym (l .first)); number = t .count; laid = t .points }
+use Rattle.set_explore.specs.Evaluation.{outcomeOf, outcomeNumber, sizeOf, listAfter, routeAfter, Evaluated}
 
 -- ---- the evaluation, case by case
 module _ (g : Board) (s : List ℕ) where
@@ -137,12 +94,8 @@ module _ (q : Query) (start end n : ℕ) (groups numbers : List ℕ) (edges : Li
   flat-minimal s = refl
 
   pub flat-allowed : (s : List ℕ) → allowedRoute board s ≡ allowedPast (q .window) steps start end (board .allow) s
-  unfolding allowedRoute routePast flatBoard allowedPast passed
-  flat-allowed s = by (board .allow)
-    where
-      by : (a : Option Mover) → elim a [ none ↦ some [] | some m ↦ passed (q .window) steps start end m s ] ≡ allowedPast (q .window) steps start end a s
-      by none = refl
-      by (some m) = refl
+  unfolding allowedRoute routePast flatBoard passed
+  flat-allowed s = past-cases (q .window) steps start end s (board .allow)
 
   pub flat-start : (s : List ℕ) → leavesOpen (board .block) s start ≡ false → openEnds board (board .block) s ≡ false
   unfolding openEnds flatBoard
@@ -166,26 +119,3 @@ module _ (q : Query) (start end n : ℕ) (groups numbers : List ℕ) (edges : Li
       (eval-wall board (explore board s) (allowedPast (q .window) steps start end (board .allow) s) r list route route₂
       (explore-wall board s (flat-open s a b) (flat-past (board .block) s ∙ n) (flat-minimal s ∙ t) ∙ ap (wallBy board) (flat-allowed s))
       (subst (λ (y : List ℕ). Allowed (allowedPast (q .window) steps start end (board .allow) s) r y route₂) k w))
-
--- ---- the allowed mover
-module _ (w : Rect) (steps : List Step) (start end : ℕ) (edges : List ℤ) (allow : Allow) (base s : List ℕ) where
-  pub allow-nobody : allow ≡ Nobody → (route : List ℕ) → Allowed (allowedPast w steps start end (allowIn w edges allow base) s) (passage.the-variants.Free 0) route route
-  unfolding allowIn allowedPast
-  allow-nobody e route = rw e (allowed-none route)
-
-  pub allow-moving : (m : Bounds) → allow ≡ Bounded m → AllowReady w allow base → Named edges s → Moving w m base edges s
-  unfolding AllowReady
-  allow-moving m e r n = let k = rw e at r in record { slim = k .0; bytes = k .1; named = n }
-
-  pub allow-past : (m : Bounds) → allow ≡ Bounded m → passed w steps start end (moverIn w edges m base) (withoutAt (length s) s) ≡ allowedPast w steps start end (allowIn w edges allow base) s
-  unfolding allowIn allowedPast
-  allow-past m e = rw e (ap (passed w steps start end (moverIn w edges m base)) (without-at-past (length s) s (omega arith)))
-
-  pub map-nobody : allow ≡ Nobody → (cells : List ℕ) → cells ≡ mapAfterAllowed w (allowIn w edges allow base) s cells
-  unfolding allowIn mapAfterAllowed
-  map-nobody e cells = rw e
-
-  pub map-past : (m : Bounds) → allow ≡ Bounded m → (cells cells′ : List ℕ) → cells′ ≡ coverOf (moverIn w edges m base) (centres w) (withoutAt (length s) s)
-      → cells′ ≡ mapAfterAllowed w (allowIn w edges allow base) s cells
-  unfolding allowIn mapAfterAllowed
-  map-past m e cells cells′ l = rw e (l ∙ ap (coverOf (moverIn w edges m base) (centres w)) (without-at-past (length s) s (omega arith)))

@@ -2,9 +2,8 @@
 use Prim.Native.Nat.{ℕ, _*_, _<_}
 use mathlib.Core.Path.{_≡_, refl, sym, ap, _∙_, subst}
 use mathlib.Core.Bool.{true}
-use mathlib.Core.Option.{Option, some}
+use mathlib.Core.Option.{some}
 use mathlib.Core.List.{List}
-use native.Mathlib.Omega.{arith}
 use lib.IntN.{ℤ}
 use lib.ListN.{length, take}
 use Rattle.base_model.specs.declared.Rect.{Rect}
@@ -14,31 +13,20 @@ use Rattle.rule_routes.specs.Edges.{Step, eachOnce, windowEdges}
 use Rattle.rule_routes.proofs.RouteTheorem.{route-is-road}
 use Rattle.rule_routes.proofs.WindowLaws.{window-within}
 use Rattle.rule_layouts.specs.Boards.{Mover, leavesOpen}
-use Rattle.rule_layouts.specs.Explore.{Extend, touches, extensions, explore}
-use Rattle.set_cover.specs.Cover.{moverIn, withoutAt, Named}
-use Rattle.set_cover.proofs.Lifts.{without-at-past}
-use Rattle.set_extend.specs.Touch.{Trail, touched}
-use Rattle.set_extend.specs.Join.{Rowed, extending, ListWritten}
-use Rattle.set_extend.proofs.Touching.{walk-linked}
-use Rattle.route_find.specs.Results.{RouteFound, laidInto}
-use Rattle.set_explore.specs.declared.Explored as answer
-use Rattle.set_explore.specs.Ready.{passed, flatBoard}
-use Rattle.set_explore.specs.Evaluation.{Evaluated}
-use Rattle.set_explore.proofs.Evaluating.{routed-none, routed-some, explore-route, eval-extend, flat-past}
 use Rattle.rule_layouts.specs.Flat.{placesIn}
-
--- members are named in the row of edges
-pub named-rows : {n : ℕ} {groups numbers : List ℕ} {edges : List ℤ} {s : List ℕ} → Rowed n groups numbers edges s → Named edges s
-named-rows r = record { each = λ i m. let k = r .named i m in omega (arith, r .eights) }
-
--- no points, no change
-pub routed-kept : (o : Option (List ℕ)) (route route′ : List ℕ) (r : ℕ) → r ≡ 0 → RouteFound o route route′ r → route′ ≡ route
-unfolding laidInto
-routed-kept o route route′ r e t = t .points ∙ ap (λ (x : Option (List ℕ)). laidInto x route) (routed-none o route route′ (rw e at t))
-
--- nothing lifted is the whole set
-pub whole : (s : List ℕ) → withoutAt (length s) s ≡ s
-whole s = without-at-past (length s) s (omega arith)
+use Rattle.rule_layouts.specs.Explore.{Extend, touches, extensions, explore}
+use Rattle.set_cover.specs.Cover.{moverIn, withoutAt}
+use Rattle.set_extend.specs.Touch.{Trail, touched}
+use Rattle.set_extend.specs.Join.{extending, ListWritten}
+use Rattle.set_extend.proofs.Touching.{walk-linked}
+use Rattle.route_find.specs.Results.{RouteFound}
+use Rattle.set_board.specs.Board.{flatBoard}
+use Rattle.set_pass.specs.Pass.{passed}
+use Rattle.set_pass.proofs.Passing.{whole}
+use Rattle.set_pass.proofs.Routed.{routed-some}
+use Rattle.set_explore.specs.declared.Explored as answer
+use Rattle.set_explore.specs.Evaluation.{Evaluated}
+use Rattle.set_explore.proofs.Evaluating.{explore-route, eval-extend, flat-past}
 
 pub trail-of : (w : Rect) (steps : List Step) (start end : ℕ) (m : Mover) (s r : List ℕ) → eachOnce steps ≡ true → start < centres w → passed w steps start end m s ≡ some r → Trail w steps r
 unfolding passed centres

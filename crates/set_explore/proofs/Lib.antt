@@ -1,6 +1,2 @@
-pub mod Nearby
-pub mod FlatBoard
-pub mod Passing
-pub mod Lifting
 pub mod Evaluating
 pub mod Extending

@@ -1,13 +1,10 @@
 -- What an evaluation answers and leaves in the areas.
 use Prim.Native.Nat.{ℕ}
 use mathlib.Core.Path.{_≡_}
-use mathlib.Core.Option.{Option, none, some}
 use mathlib.Core.List.{List, _++_}
 use lib.ListN.{length, take, drop}
 use Rattle.rule_layouts.specs.Explore.{Outcome, Nothing, Extend, Wall}
-use Rattle.route_find.specs.Results.{pointCount, laidInto}
 use Rattle.set_explore.specs.declared.Explored as answer
-use Rattle.set_explore.specs.declared.Passage as passage
 
 -- the outcome for each answer: the list and the route stand in the first entries of their areas
 unfoldable pub outcomeOf : answer.Explored → (list route : List ℕ) → Outcome ℕ
@@ -49,18 +46,3 @@ pub record MapRestored (map queue predecessors map′ queue′ predecessors′ :
   pub mapKept : map′ ≡ map
   pub queueKept : queue′ ≡ queue
   pub predecessorsKept : predecessors′ ≡ predecessors
-
--- the allowed route for each answer, in the first entries of the area
-unfoldable pub passageOf : passage.Passage → List ℕ → Option (List ℕ)
-passageOf passage.the-variants.Shut route = none
-passageOf (passage.the-variants.Free k) route = some (take k route)
-
-unfoldable pub passagePoints : passage.Passage → ℕ
-passagePoints passage.the-variants.Shut = 0
-passagePoints (passage.the-variants.Free k) = k
-
--- the allowed route stands in the route
-pub record Allowed (o : Option (List ℕ)) (r : passage.Passage) (route route′ : List ℕ) : Type 0 where
-  pub is : o ≡ passageOf r route′
-  pub number : passagePoints r ≡ pointCount o
-  pub laid : route′ ≡ laidInto o route

@@ -21,9 +21,9 @@ use Rattle.rule_layouts.specs.Inputs.{boardOf}
 use Rattle.rule_layouts.specs.Judge.{groundLeft}
 use Rattle.set_cover.specs.Cover.{coverOf, moverIn}
 use Rattle.set_cover.proofs.Covers.{length-cover}
-use Rattle.set_explore.specs.Ready.{flatBoard}
-use Rattle.set_explore.proofs.FlatBoard.{flat-board}
-use Rattle.set_explore.proofs.Passing.{open-is}
+use Rattle.set_board.specs.Board.{flatBoard}
+use Rattle.set_board.proofs.FlatBoard.{flat-board}
+use Rattle.set_pass.proofs.Passing.{open-is}
 use Rattle.set_verdict.specs.Flags.{openBytes}
 
 -- so many of the first i numbers pass

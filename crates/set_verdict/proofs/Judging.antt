@@ -7,6 +7,7 @@ use mathlib.Core.List.{List, [], _∷_, _++_}
 use lib.IntN.{ℤ}
 use lib.ListN.{length, drop, replicate, length-replicate}
 use Rattle.base_laws.proofs.Stores.{whole-cleared}
+use Rattle.base_laws.proofs.Firsts.{picked, passed-by, none-holds}
 use Rattle.base_laws.specs.Lists.{anyOf, firstOf, isSome}
 use Rattle.base_model.specs.declared.Rect.{Rect}
 use Rattle.base_model.specs.declared.Query.{Query}
@@ -17,17 +18,20 @@ use Rattle.ground_rects.proofs.Windows.{framed}
 use Rattle.rule_routes.specs.Edges.{Step}
 use Rattle.route_find.specs.Ground.{openIn}
 use Rattle.rule_layouts.specs.Boards.{Mover, Board, leavesOpen, openEnds, routePast}
-use Rattle.rule_layouts.specs.Explore.{isMinimalBlock}
+use Rattle.rule_layouts.specs.Explore.{isMinimalBlock, allowedRoute}
 use Rattle.rule_layouts.specs.Inputs.{boardOf}
 use Rattle.rule_layouts.specs.Flat.{placesIn, inputsOf}
 use Rattle.rule_layouts.specs.Judge.{overSlots, overlaps, verdict}
-use Rattle.set_cover.specs.Cover.{coverOf, moverIn}
-use Rattle.set_explore.specs.Ready.{Blank, RouteLent, AreasKept, passed, minimal, allowedPast, allowIn, flatBoard}
-use Rattle.set_explore.proofs.FlatBoard.{flat-board}
-use Rattle.set_explore.proofs.Passing.{open-is}
-use Rattle.base_laws.proofs.Firsts.{picked, passed-by, none-holds}
-use Rattle.set_explore.proofs.Evaluating.{flat-allowed}
-use Rattle.set_verdict.specs.Flags.{crowded, clashing, pastShut, pastFit}
+use Rattle.set_cover.specs.Cover.{coverOf, moverIn, allowIn}
+use Rattle.set_board.specs.Ready.{Blank}
+use Rattle.set_board.specs.Board.{flatBoard}
+use Rattle.set_board.proofs.FlatBoard.{flat-board}
+use Rattle.set_pass.specs.Pass.{RouteLent, AreasKept, passed, minimal}
+use Rattle.set_pass.proofs.Passing.{open-is}
+use Rattle.set_pass.proofs.Allowing.{past-cases}
+use Rattle.set_shut.specs.Shut.{pastShut}
+use Rattle.set_clash.specs.Clashes.{crowded, clashing}
+use Rattle.set_verdict.specs.Flags.{pastFit}
 
 -- ---- the verdict over placements lent flat
 module _ (q : Query) (start end n : ℕ) (groups numbers : List ℕ) (edges : List ℤ) (blockBase allowBase : List ℕ) (steps : List Step) (s : List ℕ) where
@@ -38,7 +42,7 @@ module _ (q : Query) (start end n : ℕ) (groups numbers : List ℕ) (edges : Li
   fit = pastFit (q .window) steps start end (moverIn (q .window) edges (q .block) blockBase) (allowIn (q .window) edges (q .allow) allowBase) s
 
   pub verdict-flat : verdict board s ≡ firstOf ((anyOf (crowded (placesIn n groups numbers edges) s) s, Slots) ∷ (anyOf (clashing edges s) s, Overlap) ∷ []) fit
-  unfolding verdict overSlots overlaps openEnds crowded clashing pastFit pastShut firstOf flatBoard placesIn passed minimal isMinimalBlock routePast
+  unfolding verdict overSlots overlaps openEnds crowded clashing pastFit pastShut firstOf flatBoard placesIn passed minimal isMinimalBlock allowedRoute routePast
   verdict-flat =
       ap
       (λ (o : Option (List ℕ)).
@@ -50,7 +54,7 @@ module _ (q : Query) (start end n : ℕ) (groups numbers : List ℕ) (edges : Li
       ∷ (not (isMinimalBlock board s), Spare)
       ∷ (not (isSome o), Shut)
       ∷ []) Wall)
-      (flat-allowed q start end n groups numbers edges blockBase allowBase steps s)
+      (past-cases (q .window) steps start end s (board .allow))
 
   pub verdict-slots : (b : Bool) → b ≡ anyOf (crowded (placesIn n groups numbers edges) s) s → b ≡ true → Slots ≡ verdict board s
   verdict-slots b e t = sym (verdict-flat ∙ picked _ Slots _ fit (sym e ∙ t))
@@ -75,20 +79,6 @@ module _ (w : Rect) (steps : List Step) (start end : ℕ) (block : Mover) (allow
 
   abbrev byFit : Verdict
   byFit = pastFit w steps start end block allow s
-
-  module _ (m : Bool) (e : m ≡ minimal w steps start end block s) where
-    pub shut-spare : not m ≡ true → Spare ≡ byShut
-    unfolding pastShut
-    shut-spare t = sym (picked _ Spare _ Wall (ap not (sym e) ∙ t))
-
-    module _ (f : not m ≡ false) (a : Bool) (p : a ≡ isSome (allowedPast w steps start end allow s)) where
-      pub shut-shut : not a ≡ true → Shut ≡ byShut
-      unfolding pastShut
-      shut-shut t = sym (passed-by _ Spare _ Wall (ap not (sym e) ∙ f) ∙ picked _ Shut _ Wall (ap not (sym p) ∙ t))
-
-      pub shut-wall : not a ≡ false → Wall ≡ byShut
-      unfolding pastShut
-      shut-wall t = sym (passed-by _ Spare _ Wall (ap not (sym e) ∙ f) ∙ passed-by _ Shut _ Wall (ap not (sym p) ∙ t) ∙ none-holds Wall)
 
   -- the ends are looked at on the map that the set lays
   module _ (cells : List ℕ) (laid : cells ≡ coverOf block (centres w) s) (startBelow : start < centres w) (endBelow : end < centres w)
@@ -138,6 +128,3 @@ blank-again b e k = record {
   predecessorsClear = k .predecessorsKept ∙ b .predecessorsClear;
   routeClear = k .routeKept ∙ b .routeClear;
 }
-
-pub kept-on : {q p r q′ p′ r′ q″ p″ r″ : List ℕ} → AreasKept q p r q′ p′ r′ → AreasKept q′ p′ r′ q″ p″ r″ → AreasKept q p r q″ p″ r″
-kept-on a b = record { queueKept = b .queueKept ∙ a .queueKept; predecessorsKept = b .predecessorsKept ∙ a .predecessorsKept; routeKept = b .routeKept ∙ a .routeKept }

@@ -1,4 +1,2 @@
-pub mod Looking
 pub mod Judging
-pub mod Allowing
 pub mod Counting

@@ -1,5 +1,5 @@
 -- The answer to a text: it stands in front of the area once it is written, and a text that is none or is over a cap gets 18. Assumes nothing.
-use mathlib.Core.Path.{_≡_, refl, subst}
+use mathlib.Core.Path.{_≡_, subst}
 use mathlib.Core.Bool.{true, false}
 use mathlib.Core.List.{List}
 use Prim.Native.Nat.{ℕ, _≤_, _<_}
@@ -8,15 +8,14 @@ use lib.ListN.{length}
 use borrow.Author.Tests.{leb-true}
 use Rattle.base_model.specs.Answers.{refusal}
 use Rattle.rule_routes.specs.Edges.{eightSteps}
-use Rattle.sheet_texts.specs.Parts.{enough, Front}
+use Rattle.sheet_texts.specs.Parts.{Front}
 use Rattle.sheet_texts.specs.Texts.{refusalText}
 use Rattle.sheet_read.specs.Answers.{SheetGot, SheetNot, SheetBy, SheetRead}
 use Rattle.sheet_words.specs.Caps.{capsLeft}
 use Rattle.sheet_read.specs.declared.Counts.{Counts}
 use Rattle.sheet_read.specs.declared.Found.{Found}
 use Rattle.sheet_read.specs.declared.Found.the-variants as found
-use Rattle.sheet_read.proofs.Once.{not-accepted}
-use Rattle.sheet_read.proofs.Caps.{accepted, refused}
+use Rattle.sheet_read.proofs.Caps.{accepted, refused, not-accepted}
 use Rattle.sheet_rule.specs.Drive.{driveText, AnswerOf, driven, turned}
 use Rattle.sheet_values.specs.Inner.{Rooms}
 use Rattle.sheet_answer.specs.Answers.{Answers}
@@ -24,9 +23,6 @@ use Rattle.sheet_answer.specs.declared.Answered.the-variants as answered
 
 written : (text w before out : List ℕ) (n : ℕ) → AnswerOf text w → Front w before out n → Answers text before out (answered.Written n)
 written text w before out n is h = record { answer = record { bytes = w; is = is; out-is = h .text; long = h .ends } }
-
-pub short-kept : (text before : List ℕ) → length before < enough → Answers text before before answered.Short
-short-kept text before h = record { answer = record { short = h; kept = refl } }
 
 -- ---- what was read
 module _ (text fixed cells obstacles groups places : List ℕ) (r : Found) (h : SheetRead text fixed cells obstacles groups places r) where

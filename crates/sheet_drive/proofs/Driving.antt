@@ -1,5 +1,5 @@
--- The drive over the flat values: what each call's answer makes of the text. Assumes nothing.
-use mathlib.Core.Path.{_≡_, refl, sym, ap, _∙_, subst}
+-- The drive over the flat values: what the answer to the preparation of block makes of the text. Assumes nothing.
+use mathlib.Core.Path.{_≡_, refl, sym, ap, _∙_}
 use mathlib.Core.Option.{none, some}
 use mathlib.Core.List.{List, [], _∷_}
 use Prim.Native.Nat.{ℕ, _≤_}
@@ -24,42 +24,22 @@ use Rattle.rule_calls.specs.Calls.{Prepared, prepareCall, beginCall}
 use Rattle.call_prepare.specs.Prepare.{preparation}
 use Rattle.sheet_texts.specs.Texts.{refusalText}
 use Rattle.sheet_form.specs.Sheets.{Sheet}
-use Rattle.sheet_rule.specs.Drive.{boundsOf, allowedBy, queryOf, preparationOf, inputsFor, noBytes, noWork, noStore, stepText, searchText, allowText, driveText}
-use Rattle.sheet_drive.specs.Inner.{Flat}
-use Rattle.sheet_texts.proofs.Fronts.{in-front, refusal-short}
+use Rattle.sheet_rule.specs.Drive.{boundsOf, allowedBy, queryOf, preparationOf, noBytes, noWork, noStore, stepText, searchText, allowText, driveText}
+use Rattle.sheet_allowed.specs.Inner.{Flat}
+use Rattle.sheet_allowed.proofs.Given.{prepared-for, searched, fronts, refuses-front}
 
 module _ (s : Sheet) (across down : ℕ) (cells : List ℕ) (obstacles : List ℤ) (query : Query) (limits : Limits) (groups numbers : List ℕ) (edges : List ℤ)
     (h : Flat s across down cells obstacles query limits groups numbers edges) where
-  -- the mover that is prepared
-  prepared-for : (b : Bounds) (m : List ℕ) → b ≡ boundsOf m → preparation across down cells obstacles (query .window) (query .start) (query .end) b ≡ preparationOf s m
-  unfolding preparationOf queryOf
-  prepared-for b m e = rw (h .across-is, h .down-is, h .cells-are, h .obstacles-are, h .query-is, e)
-
-  pub searched : (blockBase allowBase : List ℕ) (work : Work)
-      → searchText eightSteps s blockBase allowBase work
-      ≡ stepText eightSteps (inputsOf query groups numbers edges blockBase allowBase) limits (beginCall eightSteps (inputsOf query groups numbers edges blockBase allowBase) limits work noStore)
-  unfolding searchText inputsFor
-  searched blockBase allowBase work = rw (h .query-is, h .limits-are, h .groups-are, h .numbers-are, h .edges-are)
-
-  -- ---- the allowed mover
-  module _ (m : List ℕ) (ms : List (List ℕ)) (b : Bounds) (e : b ≡ boundsOf m) (blockBase : List ℕ) (work : Work) (p : Prepared)
-      (ep : prepareCall eightSteps (preparation across down cells obstacles (query .window) (query .start) (query .end) b) noBytes work ≡ p) where
-    same : prepareCall eightSteps (preparationOf s m) noBytes work ≡ p
-    same = ap (λ q. prepareCall eightSteps q noBytes work) (sym (prepared-for b m e)) ∙ ep
-
-    pub allow-refused : (x : Said) → p .answer ≡ some x → allowText eightSteps s (m ∷ ms) blockBase work ≡ refusalText x
-    unfolding allowText
-    allow-refused x r = rw (allowText, same, r)
-
-    pub allow-searched : p .answer ≡ none → allowText eightSteps s (m ∷ ms) blockBase work ≡ searchText eightSteps s blockBase (p .baseline) (p .work)
-    unfolding allowText
-    allow-searched r = rw (allowText, same, r) (ap (λ (x : Prepared). searchText eightSteps s blockBase (x .baseline) (x .work)) same)
-
   -- ---- the mover to block
   module _ (p : Prepared) (ep : prepareCall eightSteps (preparation across down cells obstacles (query .window) (query .start) (query .end) (query .block)) noBytes noWork ≡ p) where
     block-same : prepareCall eightSteps (preparationOf s (s .block)) noBytes noWork ≡ p
     unfolding queryOf
-    block-same = ap (λ q. prepareCall eightSteps q noBytes noWork) (sym (prepared-for (query .block) (s .block) (ap (λ (q : Query). q .block) (h .query-is)))) ∙ ep
+    block-same =
+        ap (λ q. prepareCall eightSteps q noBytes noWork)
+        (sym
+        (prepared-for s across down cells obstacles query limits groups numbers edges h (query .block) (s .block)
+        (ap (λ (q : Query). q .block) (h .query-is))))
+        ∙ ep
 
     pub block-refused : (x : Said) → p .answer ≡ some x → driveText eightSteps s ≡ refusalText x
     unfolding driveText
@@ -79,12 +59,6 @@ module _ (s : Sheet) (across down : ℕ) (cells : List ℕ) (obstacles : List �
       go (m ∷ ms) q = absurd (let z : _≡_ {A = ℕ} 0 1 = cc in let w : ⊥ = omega arith in w)
 
 -- ---- the same in front of the area
-fronts : (w v before out : List ℕ) (n : ℕ) → v ≡ w → Front w before out n → Front v before out n
-fronts w v before out n e h = subst (λ (x : List ℕ). Front x before out n) (sym e) h
-
-refuses-front : (x : Refusal) (v before out : List ℕ) (n : ℕ) → enough ≤ length before → v ≡ refusalText (saidOf x) → Put (refusalText (saidOf x)) before 0 out n → Front v before out n
-refuses-front x v before out n room e h = fronts (refusalText (saidOf x)) v before out n e (in-front (refusalText (saidOf x)) before out n (omega (arith, refusal-short x)) h)
-
 unfoldable boundsIn : Allow → Bounds
 boundsIn Nobody = boundsOf []
 boundsIn (Bounded b) = b
@@ -93,24 +67,6 @@ module _ (s : Sheet) (across down : ℕ) (cells : List ℕ) (obstacles : List �
     (h : Flat s across down cells obstacles query limits groups numbers edges) (o : Answer) (base : List ℕ) (work′ : Work) (before out : List ℕ) (n : ℕ) where
   abbrev gave : Prepared
   gave = record { answer = replyOf o; baseline = base; work = work′ }
-
-  module _ (m : List ℕ) (ms : List (List ℕ)) (b : Bounds) (e : b ≡ boundsOf m) (blockBase : List ℕ) (work : Work)
-      (ep : prepareCall eightSteps (preparation across down cells obstacles (query .window) (query .start) (query .end) b) noBytes work ≡ gave) where
-    pub allowed-refused : (x : Refusal) → o ≡ Refused x → enough ≤ length before → Put (refusalText (saidOf x)) before 0 out n → Front (allowText eightSteps s (m ∷ ms) blockBase work) before out n
-    unfolding replyOf
-    allowed-refused x q room k =
-        refuses-front x (allowText eightSteps s (m ∷ ms) blockBase work) before out n room
-        (allow-refused s across down cells obstacles query limits groups numbers edges h m ms b e blockBase work gave ep (saidOf x) (ap replyOf q)) k
-
-    pub allowed-searched : o ≡ Done
-        → Front (stepText eightSteps (inputsOf query groups numbers edges blockBase base) limits
-        (beginCall eightSteps (inputsOf query groups numbers edges blockBase base) limits work′ noStore)) before out n
-        → Front (allowText eightSteps s (m ∷ ms) blockBase work) before out n
-    unfolding replyOf
-    allowed-searched q k =
-        fronts _ _ before out n
-        (allow-searched s across down cells obstacles query limits groups numbers edges h m ms b e blockBase work gave ep (ap replyOf q)
-        ∙ searched s across down cells obstacles query limits groups numbers edges h blockBase base work′) k
 
   module _ (ep : prepareCall eightSteps (preparation across down cells obstacles (query .window) (query .start) (query .end) (query .block)) noBytes noWork ≡ gave) where
     pub drive-refused : (x : Refusal) → o ≡ Refused x → enough ≤ length before → Put (refusalText (saidOf x)) before 0 out n → Front (driveText eightSteps s) before out n

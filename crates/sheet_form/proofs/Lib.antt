@@ -1,1 +1,4 @@
 pub mod Marked
+pub mod Follows
+pub mod Once
+pub mod Widths

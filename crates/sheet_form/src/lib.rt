@@ -1,5 +1,5 @@
-// The drive sheet as definitions: its fields, its text as a form, which texts are accepted, and its numbers by name. No function: a wrong
-// form is refused by the rows here, without the readers.
+// The drive sheet as definitions and laws: its fields, its text as a form, which texts are accepted, that a text is one sheet's at most;
+// and its numbers by name. No function: a wrong form is refused here, without the readers.
 use base_model::EDGES;
 use base_model::NUMBERS;
 

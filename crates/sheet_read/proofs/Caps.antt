@@ -1,56 +1,26 @@
--- The caps that are left once the areas hold the sheet: with them a text is accepted or is not. Assumes nothing.
-use mathlib.Core.Path.{_≡_, refl, sym, ap, _∙_, subst}
+-- The caps that are left once the areas hold the sheet: with them a text is accepted or is not; a text that is none, or has more than the areas
+-- hold, is accepted as no sheet. Assumes nothing.
+use mathlib.Core.Path.{_≡_, sym, ap, _∙_}
 use mathlib.Core.Bool.{Bool, true, false, _&&_, and-true}
-use mathlib.Core.List.{List, [], _∷_, _++_}
-use Prim.Native.Nat.{ℕ, zero, suc, _+_, _*_, _≤_, _<_}
-use native.Mathlib.Nat.{zero-add, mul-zero, mul-suc}
+use mathlib.Core.Logic.{⊎-elim}
+use mathlib.Core.List.{List}
+use Prim.Native.Nat.{ℕ, _≤_, _<_}
 use native.Mathlib.Omega.{arith}
 use lib.Dec.{leb}
-use lib.ListN.{length, take, drop, getD, List·getD-append}
-use lib.Seq.{getD-drop, getD-take, getD-append-add}
-use borrow.Author.Tests.{le-leb}
+use lib.ListN.{length, drop, getD}
+use lib.Seq.{getD-drop}
+use borrow.Author.Tests.{le-leb, leb-true}
+use Rattle.base_laws.proofs.Members.{both}
 use Rattle.base_model.specs.declared.Rect.{Rect}
-use Rattle.base_laws.specs.Lists.{flat}
-use Rattle.text_forms.specs.Forms.{All, AtMostOne}
-use Rattle.text_forms.specs.Patterns.{bytes, is, fields}
-use Rattle.text_forms.proofs.Pieces.{clash, line-count}
+use Rattle.text_forms.proofs.Pieces.{clash}
 use Rattle.sheet_form.specs.Sheets.{Sheet, sheet, rectOf, withinCaps, Accepted}
 use Rattle.sheet_words.specs.Caps.{fewCentres, capsLeft}
-use Rattle.sheet_read.specs.Answers.{Stands, SheetHeld, SheetGot}
+use Rattle.sheet_form.proofs.Once.{sheet-once}
+use Rattle.sheet_form.proofs.Widths.{window-wide, limits-wide}
+use Rattle.sheet_lines.specs.Answers.{Stands}
+use Rattle.sheet_read.specs.Answers.{SheetHeld, SheetGot, SheetNot}
 use Rattle.sheet_read.specs.declared.Counts.{Counts}
-use Rattle.sheet_read.proofs.Once.{sheet-once}
 
--- ---- how many numbers each line has
-module _ (s : Sheet) (fit : sheet .fits s) where
-  pub size-wide : length (s .size) ≡ 2
-  unfolding fields
-  size-wide = line-count (bytes "(map $ $ ") (s .size) (fit .0)
-
-  pub window-wide : length (s .window) ≡ 4
-  unfolding fields
-  window-wide = line-count (bytes "(window # # # #)\n") (s .window) (fit .1 .1 .1 .1 .0)
-
-  pub ends-wide : length (s .ends) ≡ 4
-  unfolding fields
-  ends-wide = line-count (bytes "(ends $ $ $ $)\n") (s .ends) (fit .1 .1 .1 .1 .1 .0)
-
-  pub block-wide : length (s .block) ≡ 4
-  unfolding fields
-  block-wide = line-count (bytes "(block $ $ $ $)\n") (s .block) (fit .1 .1 .1 .1 .1 .1 .0)
-
-  pub allow-wide : (b : List ℕ) (bs : List (List ℕ)) → s .allow ≡ b ∷ bs → (length b ≡ 4) × (bs ≡ [])
-  unfolding fields
-  allow-wide b bs e = go bs (subst (λ (l : List (List ℕ)). AtMostOne (is "(allow $ $ $ $)\n" .fits) l) e (fit .1 .1 .1 .1 .1 .1 .1 .0))
-    where
-      go : (l : List (List ℕ)) → AtMostOne (is "(allow $ $ $ $)\n" .fits) (b ∷ l) → (length b ≡ 4) × (l ≡ [])
-      go [] u = (line-count (bytes "(allow $ $ $ $)\n") b u, refl)
-      go (x ∷ l) u = absurd u
-
-  pub limits-wide : length (s .limits) ≡ 2
-  unfolding fields
-  limits-wide = line-count (bytes "(limits $ $)\n") (s .limits) (fit .1 .1 .1 .1 .1 .1 .1 .1 .0)
-
--- ---- the caps
 stands-rect : (row : List ℕ) (slot : ℕ) (area : List ℕ) → length row ≡ 4 → Stands row slot area → rectOf (drop slot area) ≡ rectOf row
 unfolding rectOf
 stands-rect row slot area four h = rw (rectOf, same 0 (omega arith), same 1 (omega arith), same 2 (omega arith), same 3 (omega arith))
@@ -90,34 +60,19 @@ module _ (text : List ℕ) (k : Counts) (fixed cells obstacles groups places : L
       let same : t ≡ g .value = sheet-once t (g .value) (h .fits) (g .fits) (h .spelled ∙ sym (g .spelled)) in
       clash (sym e ∙ same-caps ∙ ap withinCaps (sym same) ∙ h .capped)
 
--- ---- lines by their row
-all-at : (P : List ℕ → Type 0) (l : List (List ℕ)) → All P l → (i : ℕ) → i < length l → P (getD l i [])
-all-at P [] u i lt = absurd (omega arith)
-all-at P (a ∷ l) u zero lt = u .0
-all-at P (a ∷ l) u (suc i) lt = all-at P l (u .1) i (omega arith)
+-- ---- a text that is none, or has more than the areas hold
+caps : (s : Sheet) → withinCaps s ≡ true
+    → (leb (length (s .cells)) 64 ≡ true) × (leb (length (s .obstacles)) 32 ≡ true) × (leb (length (s .places)) 64 ≡ true)
+unfolding withinCaps
+caps s e =
+    let k = both _ (leb (getD (s .limits) 0 0) 500) e in
+    let p = both _ (leb (length (s .places)) 64) (k .0) in
+    let o = both _ (leb (length (s .obstacles)) 32) (p .0) in
+    (both (leb (length (s .cells)) 64) _ (o .0) .0, o .1, p .1)
 
--- rows of one width, each in its place of the flat list
-pub flat-at : (w : ℕ) (l : List (List ℕ)) → ((i : ℕ) → i < length l → length (getD l i []) ≡ w) → (i j : ℕ) → i < length l → j < w
-    → getD (flat l) (w * i + j) 0 ≡ getD (getD l i []) j 0
-unfolding flat
-flat-at w [] h i j lt lj = absurd (omega arith)
-flat-at w (a ∷ l) h zero j lt lj =
-    let z : w * 0 + j ≡ j = ap (λ (n : ℕ). n + j) (mul-zero w) ∙ zero-add j in
-    ap (λ (n : ℕ). getD (a ++ flat l) n 0) z ∙ List·getD-append a (flat l) 0 j (omega (arith, h 0 (omega arith)))
-flat-at w (a ∷ l) h (suc i) j lt lj =
-    let z : w * suc i + j ≡ length a + (w * i + j) = omega (arith, mul-suc w i, h 0 (omega arith)) in
-    ap (λ (n : ℕ). getD (a ++ flat l) n 0) z ∙ getD-append-add a (flat l) (w * i + j) 0 ∙ flat-at w l (λ n le. h (suc n) (omega arith)) i j (omega arith) lj
-
-module _ (s : Sheet) (fit : sheet .fits s) where
-  pub place-wide : (i : ℕ) → i < length (s .places) → length (getD (s .places) i []) ≡ 12
-  unfolding fields
-  place-wide i lt =
-      line-count (bytes "(place $ $ $ $ (# # # #) (# # # #))\n") (getD (s .places) i [])
-      (all-at (is "(place $ $ $ $ (# # # #) (# # # #))\n" .fits) (s .places) (fit .1 .1 .1 .1 .1 .1 .1 .1 .1 .1 .1 .1 .0) i lt)
-
-  -- number j of place i, as it stands in the area
-  pub place-at : (count : ℕ) (area : List ℕ) → count ≡ length (s .places) → take (12 * count) area ≡ flat (s .places) → (i j : ℕ) → i < count → j < 12
-      → getD area (12 * i + j) 0 ≡ getD (getD (s .places) i []) j 0
-  place-at count area e a i j lt lj =
-      sym (getD-take (12 * count) area (12 * i + j) 0 (omega arith)) ∙ ap (λ (l : List ℕ). getD l (12 * i + j) 0) a
-      ∙ flat-at 12 (s .places) place-wide i j (omega arith) lj
+pub not-accepted : (text : List ℕ) → SheetNot text → (s : Sheet) → Accepted text s → ⊥
+not-accepted text h s k =
+    let c = caps s (k .capped) in
+    ⊎-elim (λ x. omega (arith, leb-true (length (s .cells)) 64 (c .0)))
+    (λ y. ⊎-elim (λ x. omega (arith, leb-true (length (s .obstacles)) 32 (c .1))) (λ x. omega (arith, leb-true (length (s .places)) 64 (c .2))) y)
+    (h .over s (k .fits) (k .spelled))

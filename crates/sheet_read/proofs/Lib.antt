@@ -1,9 +1,2 @@
-pub mod Rest
-pub mod Lines
-pub mod Readers
-pub mod Told
-pub mod Parts
-pub mod Allowed
 pub mod Whole
-pub mod Once
 pub mod Caps

@@ -6,18 +6,11 @@ use Prim.Native.Nat.{ℕ, _+_, _*_, _≤_, _<_}
 use native.Mathlib.Omega.{arith}
 use lib.ListN.{length, getD}
 use Rattle.text_forms.specs.Patterns.{bytes, is, fields}
-use Rattle.sheet_form.specs.Sheets.{Sheet}
-use Rattle.sheet_read.specs.Answers.{SheetRead}
-use Rattle.sheet_read.specs.Inner.{
-  SheetLines,
-  placesOn,
-  groupsOn,
-  allowOn,
-  linesOn,
-  obstaclesOn,
-  whole,
-  RestSpelled,
-  Only,
+use Rattle.text_forms.specs.Rest.{RestSpelled, Only}
+use Rattle.text_forms.proofs.Rest.{left-then, only-then, only-more, left-run, only-longer, end-made, end-only}
+use Rattle.sheet_form.specs.Tails.{SheetLines, placesOn, groupsOn, allowOn, linesOn, obstaclesOn, whole, parts}
+use Rattle.sheet_form.proofs.Follows.{obstacles-follow, obstacles-end, places-follow, places-end}
+use Rattle.sheet_lines.specs.Answers.{
   PlacedRows,
   RowsOver,
   MapRead,
@@ -29,14 +22,11 @@ use Rattle.sheet_read.specs.Inner.{
   GroupsRead,
   GroupsGot,
 }
+use Rattle.sheet_lines.specs.declared.Place.the-variants as place
+use Rattle.sheet_lines.specs.declared.Part.the-variants as part
+use Rattle.sheet_lines.proofs.Standing.{stands-kept, kept-kept}
+use Rattle.sheet_read.specs.Answers.{SheetRead}
 use Rattle.sheet_read.specs.declared.Found.the-variants as found
-use Rattle.sheet_read.specs.declared.Place.the-variants as place
-use Rattle.sheet_read.specs.declared.Part.the-variants as part
-use Rattle.sheet_read.proofs.Rest.{left-then, only-then, only-more, left-run, only-longer, end-made, end-only}
-use Rattle.sheet_read.proofs.Lines.{stands-kept, kept-kept, obstacles-follow, obstacles-end, places-follow, places-end}
-
-abbrev pub parts : Sheet → SheetLines
-parts s = (s .size, (s .cells, ([], (s .obstacles, (s .window, (s .ends, (s .block, (s .allow, (s .limits, ([], (s .groups, ([], (s .places, [])))))))))))))
 
 abbrev OverAll : SheetLines → Type 0
 OverAll w = (64 < length (w .1 .0)) ⊎ ((32 < length (w .1 .1 .1 .0)) ⊎ (64 < length (w .1 .1 .1 .1 .1 .1 .1 .1 .1 .1 .1 .1 .0)))

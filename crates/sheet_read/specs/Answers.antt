@@ -2,17 +2,14 @@
 use mathlib.Core.Path.{_≡_}
 use mathlib.Core.Logic.{_⊎_}
 use mathlib.Core.List.{List, []}
-use Prim.Native.Nat.{ℕ, _+_, _*_, _≤_, _<_}
+use Prim.Native.Nat.{ℕ, _*_, _≤_, _<_}
 use lib.ListN.{length, take, getD}
 use Rattle.base_laws.specs.Lists.{flat}
 use Rattle.sheet_form.specs.Sheets.{Sheet, sheet}
+use Rattle.sheet_lines.specs.Answers.{Stands}
 use Rattle.sheet_read.specs.declared.Counts.{Counts}
 use Rattle.sheet_read.specs.declared.Found.{Found}
 use Rattle.sheet_read.specs.declared.Found.the-variants as found
-
--- the row's numbers are the area's, from the slot on
-pub record Stands (row : List ℕ) (slot : ℕ) (area : List ℕ) : Type 0 where
-  pub at : (k : ℕ) → k < length row → getD area (slot + k) 0 ≡ getD row k 0
 
 -- the text is short, and the areas are those of the largest sheet
 pub record SheetLent (text fixed cells obstacles groups places : List ℕ) : Type 0 where

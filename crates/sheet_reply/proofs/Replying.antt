@@ -1,9 +1,8 @@
 -- What was written is the answer to what arrived: 18 where no whole text stands in the area, otherwise what `sheet_answer::answer` wrote, whose area is long enough.
 use Prim.Native.Nat.{ℕ, _≤_, _<_}
 use mathlib.Core.Path.{_≡_, refl, sym, _∙_, ap, subst}
-use mathlib.Core.Bool.{true}
 use mathlib.Core.Logic.{⊎-elim}
-use mathlib.Core.Option.{Option, none, some}
+use mathlib.Core.Option.{none, some}
 use mathlib.Core.List.{List, _∷_, [], _++_}
 use native.Mathlib.Omega.{arith}
 use lib.ListN.{length, length-append, take, drop}
@@ -16,7 +15,7 @@ use Rattle.input_arrival.specs.declared.Arrival.{Arrival}
 use Rattle.input_arrival.specs.declared.Arrival.the-variants.{Going, Whole, Cut}
 use Rattle.base_model.specs.Answers.{refusal}
 use Rattle.text_forms.specs.Writing.{Put}
-use Rattle.sheet_texts.specs.Parts.{enough, Front}
+use Rattle.sheet_texts.specs.Parts.{enough}
 use Rattle.sheet_texts.specs.Texts.{refusalText}
 use Rattle.sheet_answer.specs.Answers.{WrittenOut, TooShort, AnsweredBy, Answers}
 use Rattle.sheet_answer.specs.declared.Answered.{Answered}

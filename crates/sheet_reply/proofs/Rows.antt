@@ -1,7 +1,7 @@
 -- Which text stands in an area of four bytes, by what has arrived, and what is written where none does, byte by byte.
 use Prim.Native.Nat.{ℕ}
 use mathlib.Core.Path.{_≡_, refl}
-use mathlib.Core.Option.{Option, none, some}
+use mathlib.Core.Option.{none, some}
 use mathlib.Core.List.{List, [], _∷_}
 use Rattle.base_model.specs.Answers.{refusal}
 use Rattle.input_arrival.specs.declared.Arrival.the-variants.{Going, Whole, Cut}

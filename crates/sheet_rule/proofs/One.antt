@@ -3,7 +3,7 @@ use mathlib.Core.Path.{_≡_, refl, ap}
 use mathlib.Core.List.{List}
 use Prim.Native.Nat.{ℕ}
 use Rattle.rule_routes.specs.Edges.{eightSteps}
-use Rattle.sheet_read.proofs.Once.{accepted-one}
+use Rattle.sheet_form.proofs.Once.{accepted-one}
 use Rattle.sheet_rule.specs.Drive.{driveText, AnswerOf, driven, turned}
 
 pub answer-one : (text a b : List ℕ) → AnswerOf text a → AnswerOf text b → a ≡ b

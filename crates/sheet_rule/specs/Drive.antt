@@ -1,6 +1,6 @@
 -- What the program writes: it prepares block, then allow, begins and steps once by the state limit, and tells the result (RULES 9.4, 9.5).
 use Prim.Native.Nat.{ℕ}
-use mathlib.Core.Option.{Option, none, some}
+use mathlib.Core.Option.{none, some}
 use mathlib.Core.List.{List, [], _∷_, map}
 use lib.IntN.{ℤ, pos}
 use lib.ListN.{getD, take, drop, replicate}

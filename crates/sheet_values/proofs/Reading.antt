@@ -12,7 +12,7 @@ use Rattle.sheet_form.specs.Sheets.{Sheet, sheet}
 use Rattle.sheet_read.specs.Answers.{SheetHeld}
 use Rattle.sheet_read.specs.declared.Counts.{Counts}
 use Rattle.sheet_values.specs.Inner.{queryIn, limitsRead, numberAt, edgeAt, sideAt, Rooms, FlatIn}
-use Rattle.sheet_drive.specs.Inner.{Flat}
+use Rattle.sheet_allowed.specs.Inner.{Flat}
 use Rattle.sheet_values.proofs.Values.{across-stands, down-stands, query-stands, limits-stand}
 use Rattle.sheet_values.proofs.Rows.{numbers-filled, edges-filled, sides-filled}
 

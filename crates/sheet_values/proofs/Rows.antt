@@ -13,7 +13,7 @@ use Rattle.base_laws.proofs.Fill.{filled-copy}
 use Rattle.base_laws.proofs.Lists.{length-below}
 use Rattle.rule_calls.proofs.Blocks.{map-below, getD-map}
 use Rattle.sheet_form.specs.Sheets.{Sheet, sheet, signedOf}
-use Rattle.sheet_read.proofs.Caps.{flat-at, place-wide, place-at}
+use Rattle.sheet_form.proofs.Widths.{flat-at, place-wide, place-at}
 use Rattle.sheet_rule.specs.Drive.{edgesOf}
 use Rattle.sheet_values.specs.Inner.{numberAt, edgeAt, sideAt}
 

@@ -16,10 +16,12 @@ use Rattle.base_model.specs.declared.Allow.the-variants.{Nobody, Bounded}
 use Rattle.base_model.specs.declared.Query.{Query}
 use Rattle.ground_rects.specs.Rects.{rect}
 use Rattle.sheet_form.specs.Sheets.{Sheet, sheet, signedOf, rectOf}
-use Rattle.sheet_read.specs.Answers.{Stands, SheetHeld}
+use Rattle.sheet_lines.specs.Answers.{Stands}
+use Rattle.sheet_read.specs.Answers.{SheetHeld}
 use Rattle.sheet_read.specs.declared.Counts.{Counts}
 use Rattle.sheet_words.proofs.Edges.{rect-made}
-use Rattle.sheet_read.proofs.Caps.{size-wide, ends-wide, block-wide, allow-wide, limits-wide, window-rect}
+use Rattle.sheet_form.proofs.Widths.{size-wide, ends-wide, block-wide, allow-wide, limits-wide}
+use Rattle.sheet_read.proofs.Caps.{window-rect}
 use Rattle.sheet_rule.specs.Drive.{boundsOf, startOf, endOf, allowedBy, limitsOf, queryOf}
 use Rattle.sheet_values.specs.Inner.{positionIn, allowRead, queryIn, limitsRead}
 

@@ -12,7 +12,7 @@ use Rattle.base_model.specs.declared.Query.{Query}
 use Rattle.sheet_form.specs.Sheets.{Sheet, signedOf, rectOf}
 use Rattle.sheet_read.specs.declared.Counts.{Counts}
 use Rattle.sheet_rule.specs.Drive.{boundsOf}
-use Rattle.sheet_drive.specs.Inner.{Flat}
+use Rattle.sheet_allowed.specs.Inner.{Flat}
 
 -- ---- the values of the lines that stand once
 unfoldable pub positionIn : ℕ → List ℕ → Position

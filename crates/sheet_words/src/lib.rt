@@ -5,17 +5,13 @@ use sheet_form::LIMITS;
 use sheet_form::MOST_CENTRES;
 use sheet_form::MOST_STATES;
 use sheet_form::WINDOW;
+use text_forms::NEGATIVE;
+use text_forms::WORD;
 ghost use mathlib.Core.Path.{_≡_};
 ghost use Prim.Native.Nat.{_+_, _≤_};
 ghost use lib.ListN.{length, drop};
 ghost use Rattle.sheet_form.specs.Sheets.{signedOf, rectOf};
 ghost use Rattle.sheet_words.specs.Caps.{fewCentres, capsLeft};
-
-// The first word of a negative number.
-const NEGATIVE: u32 = 2147483648;
-
-// The largest word.
-const WORD: u32 = 4294967295;
 
 // The most states of a sheet, as a word.
 const STATES: u32 = MOST_STATES as u32;

@@ -1,6 +1,6 @@
--- Digits run together: they are read as far as they go, and each is told by itself. Assumes nothing.
+-- Digits run together: they are read as far as they go. Assumes nothing.
 use mathlib.Core.Path.{_≡_, refl, sym, ap, _∙_, subst}
-use mathlib.Core.List.{List, [], _∷_, _++_, append-cancel-left, map}
+use mathlib.Core.List.{List, [], _∷_, _++_, map}
 use Prim.Native.Nat.{ℕ, zero, suc, _+_, _-_, _≤_, _<_}
 use native.Mathlib.Omega.{arith}
 use lib.ListN.{length, take, drop, getD, length-drop, length-map}
@@ -10,30 +10,9 @@ use Rattle.text_forms.specs.Reading.{Past, Stop, Got, Bad, GotAt, BadAt, from}
 use Rattle.text_digits.specs.Answers.{DigitsRead}
 use Rattle.text_digits.specs.Inner.{DigitRun, cells}
 use Rattle.text_digits.specs.declared.Row.the-variants as row
-use Rattle.text_forms.proofs.Laws.{Tells}
 use Rattle.text_forms.proofs.Decimals.{headOf}
+use Rattle.text_forms.proofs.Digits.{spelled, same-run}
 use Rattle.text_forms.proofs.Places.{from-long, bad-here, stop-at, stop-end, split-from}
-
-abbrev spelled : List ℕ → List ℕ
-spelled = map (λ d. 48 + d)
-
--- ---- digits are told by the bytes up to the first that is none
-same-run : (a b x y : List ℕ) → All (λ d. d ≤ 9) a → All (λ d. d ≤ 9) b → Stop x → Stop y → spelled a ++ x ≡ spelled b ++ y → a ≡ b
-same-run [] [] x y u v p q e = refl
-same-run [] (d ∷ b) x y u v p q e =
-    absurd (let h : Stop ((48 + d) ∷ (spelled b ++ y)) = subst (λ (l : List ℕ). Stop l) e p in let k : 57 < 48 + d = h (omega arith) in
-    let w : d ≤ 9 = v .0 in omega arith)
-same-run (c ∷ a) [] x y u v p q e =
-    absurd (let h : Stop ((48 + c) ∷ (spelled a ++ x)) = subst (λ (l : List ℕ). Stop l) (sym e) q in let k : 57 < 48 + c =
-    h (omega arith) in let w : c ≤ 9 = u .0 in omega arith)
-same-run (c ∷ a) (d ∷ b) x y u v p q e =
-    let h : 48 + c ≡ 48 + d = ap headOf e in
-    let k : c ≡ d = omega arith in
-    let t : spelled a ++ x ≡ spelled b ++ y = append-cancel-left ((48 + c) ∷ []) (spelled a ++ x) (spelled b ++ y) (e ∙ ap (λ (n : ℕ). n ∷ (spelled b ++ y)) (sym h)) in
-    ap (λ (n : ℕ). n ∷ a) k ∙ ap (λ (l : List ℕ). d ∷ l) (same-run a b x y (u .1) (v .1) p q t)
-
-pub digits-tells : Tells Stop digits
-digits-tells = record { tells = λ a b x y u v p q e. same-run a b x y (u .1) (v .1) p q e }
 
 stop-past : (r y : List ℕ) → 0 < length r → Stop r → Stop (take 1 r ++ y)
 stop-past [] y h s = absurd (omega arith)

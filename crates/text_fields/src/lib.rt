@@ -1,17 +1,13 @@
 // A number of a pattern written, and how many bytes it takes. Apart from the lines: a digit or a sign that is wrong is refused without
 // their loops.
+use text_forms::NEGATIVE;
+use text_forms::WORD;
 ghost use mathlib.Core.Path.{_≡_};
 ghost use Prim.Native.Nat.{_+_, _≤_};
 ghost use lib.ListN.{length};
 ghost use Rattle.text_forms.specs.Forms.{decimal, signed};
 ghost use Rattle.text_forms.specs.Patterns.{piece, formOf};
 ghost use Rattle.text_forms.specs.Writing.{Put};
-
-// The first word of a negative number.
-const NEGATIVE: u32 = 2147483648;
-
-// The largest word of 32 bits.
-const WORD: u32 = 4294967295;
 
 // How many digits a number has.
 fn digit_count(n: u32) -> usize

@@ -6,3 +6,6 @@ pub mod Runs
 pub mod Walks
 pub mod Whole
 pub mod Puts
+pub mod Rest
+pub mod Digits
+pub mod Once

@@ -1,4 +1,5 @@
 // Numbers read from a text. Apart from the lines: a reader of numbers that takes a wrong range or sign is refused without their loops.
+use text_forms::WORD;
 ghost use mathlib.Core.Path.{_≡_};
 ghost use mathlib.Core.Bool.{true};
 ghost use Prim.Native.Nat.{_-_, _≤_, _<_};
@@ -9,13 +10,10 @@ ghost use Rattle.text_forms.specs.Reading.{GotAt, ReadAs};
 ghost use Rattle.text_numbers.specs.Answers.{NumberRead, stepOf};
 
 // The largest signed number of 32 bits.
-const MOST: u32 = 2147483647;
+const MOST_SIGNED: u32 = 2147483647;
 
 // The largest number after a minus sign.
-const LEAST: u32 = MOST + 1;
-
-// The largest word of 32 bits.
-const WORD: u32 = 4294967295;
+const LEAST: u32 = MOST_SIGNED + 1;
 
 // The answer of `number`: its value and the place after it, the place at fault, or that the place given is beyond the text.
 pub enum Num {
@@ -110,7 +108,7 @@ fn integer_at(s: &[u8], at: usize) -> Step
         return Step::Wrong(at);
     }
     if s[at] != b'-' {
-        return number_at(s, at, MOST);
+        return number_at(s, at, MOST_SIGNED);
     }
     let b = at + 1;
     if b == s.len() {
@@ -129,7 +127,7 @@ fn integer_at(s: &[u8], at: usize) -> Step
     Step::Read(WORD - (r.value - 1), r.next)
 }
 
-// ReadAs a number up to max.
+// Reads a number up to max.
 pub fn number(s: &[u8], at: usize, max: u32) -> Num
     ensures { λ r. ⌜ NumberRead (numberForm max) (now (s .entry)) at r ⌝ }
 {
@@ -142,7 +140,7 @@ pub fn number(s: &[u8], at: usize, max: u32) -> Num
     }
 }
 
-// ReadAs a number of a pattern, at a place inside the text.
+// Reads a number of a pattern, at a place inside the text.
 pub fn field_at(s: &[u8], at: usize, c: u8) -> Step
     requires { ⌜ at ≤ length (now s) ⌝ }
     requires { ⌜ isNumber (piece c) ≡ true ⌝ }

@@ -14,11 +14,11 @@ use Rattle.text_forms.specs.Patterns.{line, good, fields, repeats}
 use Rattle.text_forms.specs.Reading.{Series, none, absent, present}
 use Rattle.text_forms.proofs.Pieces.{line-count}
 use Rattle.text_forms.proofs.Runs.{chain-last, goes-on, repeats-solid}
+use Rattle.text_lines.specs.Answers.{PassRead, LinePass, Stored}
+use Rattle.text_lines.specs.declared.Pass.{Pass}
+use Rattle.text_lines.specs.declared.Pass.the-variants as pass
 use Rattle.text_read.specs.Answers.{RowsRead, OptionalRead, LineRead, LineReady}
-use Rattle.text_read.specs.Inner.{PassRead, LinePass, Stored}
 use Rattle.text_read.specs.declared.Several.the-variants as several
-use Rattle.text_read.specs.declared.Pass.{Pass}
-use Rattle.text_read.specs.declared.Pass.the-variants as pass
 use Rattle.text_read.specs.declared.Next.the-variants as next
 
 -- ---- the loop of rows

@@ -1,6 +1,6 @@
 // How much of a lists area is lent on with the placements that are laid flat.
 use base_model::SLOTS;
-use walls_rows::MOST;
+use walls_rows::MOST_LAID;
 ghost use mathlib.Core.Path.{_≡_};
 ghost use Rattle.walls_lent.specs.Given.{lent};
 
@@ -8,7 +8,7 @@ ghost use Rattle.walls_lent.specs.Given.{lent};
 pub fn lists_lent(lists: usize, places: usize) -> usize
     ensures { λ r. ⌜ r ≡ lent lists places ⌝ }
 {
-    if places <= MOST {
+    if places <= MOST_LAID {
         return lists;
     }
     if lists / SLOTS < places {

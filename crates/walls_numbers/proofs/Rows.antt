@@ -6,6 +6,7 @@ use mathlib.Core.List.{List, [], _∷_, _++_, map}
 use lib.IntN.{pos}
 use lib.ListN.{replicate, take}
 use Rattle.base_laws.specs.Lists.{span}
+use Rattle.base_model.specs.Answers.{verdictNumber}
 use Rattle.base_model.specs.declared.Allow.the-variants.{Nobody, Bounded}
 use Rattle.base_model.specs.declared.Limits.{Limits}
 use Rattle.base_model.specs.declared.Record.{Record}
@@ -16,7 +17,7 @@ use Rattle.rule_calls.proofs.Computing.{computing}
 use Rattle.rule_calls.proofs.Refusals.{zeroed}
 use Rattle.rule_calls.proofs.Drive.{Row, _gives_, gots, wants, at, box, bounds, place, limits, workFor, storeFor, still0, placesP, W, given, open0, alone, good, driving}
 use Rattle.call_read.specs.Told.{numberIn, indexIn}
-use Rattle.walls_numbers.specs.Numbers.{allowFrom, queryFrom, oneWhere, recordNumbers, recordFrom, numbersAfter, verdictNumber, judgedAnswer, judgedIndex, judgedVerdict, judgedGround}
+use Rattle.walls_numbers.specs.Numbers.{allowFrom, queryFrom, oneWhere, recordNumbers, recordFrom, numbersAfter, judgedAnswer, judgedIndex, judgedVerdict, judgedGround}
 use Rattle.walls_numbers.specs.Left.{prepareOn, Left, fifty, beginChecksOn, numbersFit, stepChecksOn, turned, leftBy, beginOn, stepOn, LeftRead, readChecksOn, placeOf, readOn, judgeOn}
 
 -- a name under which the calls on numbers unfold

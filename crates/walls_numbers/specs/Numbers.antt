@@ -6,13 +6,11 @@ use mathlib.Core.List.{List, [], _∷_, _++_}
 use lib.Dec.{eqb}
 use lib.IntN.{ℤ}
 use lib.ListN.{getD, take, drop}
-use Rattle.base_model.specs.Answers.{Said}
+use Rattle.base_model.specs.Answers.{Said, verdictNumber}
 use Rattle.base_model.specs.declared.Allow.{Allow}
 use Rattle.base_model.specs.declared.Allow.the-variants.{Nobody, Bounded}
 use Rattle.base_model.specs.declared.Query.{Query}
 use Rattle.base_model.specs.declared.Record.{Record}
-use Rattle.base_model.specs.declared.Verdict.{Verdict}
-use Rattle.base_model.specs.declared.Verdict.the-variants.{Slots, Overlap, EndCovered, Open, Spare, Shut, Wall}
 use Rattle.ground_rects.specs.Rects.{rect}
 use Rattle.rule_calls.specs.Calls.{Judgement, refuses, judges}
 
@@ -63,15 +61,6 @@ numbersAfter none r ns = recordNumbers r ++ drop 50 ns
 numbersAfter (some e) r ns = ns
 
 -- ---- a judgement as four numbers
-unfoldable pub verdictNumber : Verdict → ℕ
-verdictNumber Slots = 1
-verdictNumber Overlap = 2
-verdictNumber EndCovered = 3
-verdictNumber Open = 4
-verdictNumber Spare = 5
-verdictNumber Shut = 6
-verdictNumber Wall = 7
-
 -- 0 where a verdict is given
 unfoldable pub judgedAnswer : Judgement → ℕ
 judgedAnswer (refuses e) = e .number

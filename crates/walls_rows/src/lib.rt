@@ -11,11 +11,11 @@ ghost use Rattle.base_laws.specs.Fill.{over};
 ghost use Rattle.walls_rows.specs.Rows.{placeNumbers, rectEdges, bothOf};
 
 // How many placements are laid at most: one more than a call takes, so that a call sees where there are too many.
-pub const MOST: usize = 6145;
+pub const MOST_LAID: usize = 6145;
 
 pub struct Rows {
-    pub numbers: [u32; NUMBERS * MOST],
-    pub edges: [i32; EDGES * MOST],
+    pub numbers: [u32; NUMBERS * MOST_LAID],
+    pub edges: [i32; EDGES * MOST_LAID],
 }
 
 fn put_numbers(numbers: &mut [u32], at: usize, p: Placement)
@@ -59,28 +59,28 @@ pub fn lay(numbers: &mut [u32], edges: &mut [i32], i: usize, p: Placement) -> us
     i + 1
 }
 
-pub fn no_numbers() -> [u32; NUMBERS * MOST]
+pub fn no_numbers() -> [u32; NUMBERS * MOST_LAID]
     ensures { λ r. ⌜ r ≡ replicate 24580 0 ⌝ }
 {
-    [0u32; NUMBERS * MOST]
+    [0u32; NUMBERS * MOST_LAID]
 }
 
-pub fn no_edges() -> [i32; EDGES * MOST]
+pub fn no_edges() -> [i32; EDGES * MOST_LAID]
     ensures { λ r. ⌜ r ≡ replicate 49160 (pos 0) ⌝ }
 {
-    [0i32; EDGES * MOST]
+    [0i32; EDGES * MOST_LAID]
 }
 
 pub fn at_most(n: usize) -> usize
     ensures { λ r. ⌜ r ≡ min n 6145 ⌝ }
 {
-    if n <= MOST {
+    if n <= MOST_LAID {
         return n;
     }
-    MOST
+    MOST_LAID
 }
 
-pub fn both(numbers: [u32; NUMBERS * MOST], edges: [i32; EDGES * MOST]) -> Rows
+pub fn both(numbers: [u32; NUMBERS * MOST_LAID], edges: [i32; EDGES * MOST_LAID]) -> Rows
     ensures { λ r. ⌜ r ≡ record { numbers = numbers; edges = edges } ⌝ }
 {
     Rows { numbers, edges }

@@ -2,9 +2,9 @@
 use base_model::Judged;
 use base_model::Record;
 use base_model::Reply;
-use base_model::Verdict;
 use base_model::index;
 use base_model::refusal_number;
+use base_model::verdict_number;
 ghost use mathlib.Core.Path.{_≡_};
 ghost use Prim.Native.Nat.{_≤_, _<_};
 ghost use lib.ListN.{getD, take};
@@ -12,7 +12,7 @@ ghost use Rattle.base_laws.specs.Lists.{total};
 ghost use Rattle.base_model.specs.Answers.{replyOf};
 ghost use Rattle.rule_calls.specs.Calls.{judgementOf};
 ghost use Rattle.call_read.specs.Told.{numberIn, indexIn};
-ghost use Rattle.walls_numbers.specs.Numbers.{verdictNumber, judgedAnswer, judgedIndex, judgedVerdict, judgedGround};
+ghost use Rattle.walls_numbers.specs.Numbers.{judgedAnswer, judgedIndex, judgedVerdict, judgedGround};
 ghost use Rattle.walls_numbers.specs.Lent.{numbersLeft};
 
 // Tells what a call answers as numbers: the record is laid where it is accepted, the index is the one given with a refusal, the result
@@ -43,21 +43,6 @@ pub fn point_count(rec: Record, k: u32) -> u32
 {
     let routes = rec.routes;
     routes[index(k)]
-}
-
-// 1 to 7.
-fn verdict_number(verdict: Verdict) -> u32
-    ensures { λ r. ⌜ r ≡ verdictNumber verdict ⌝ }
-{
-    match verdict {
-        Verdict::Slots => 1,
-        Verdict::Overlap => 2,
-        Verdict::EndCovered => 3,
-        Verdict::Open => 4,
-        Verdict::Spare => 5,
-        Verdict::Shut => 6,
-        Verdict::Wall => 7,
-    }
 }
 
 pub fn answer_in(judged: Judged) -> u32

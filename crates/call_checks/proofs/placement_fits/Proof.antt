@@ -1,10 +1,10 @@
 -- `call_checks::placement_fits` meets its contract: each test is the definition's.
 use borrow.Author.Needs.{needs}
-use mathlib.Core.Path.{_≡_, sym, _∙_}
-use Prim.Native.Nat.{_+_, _*_}
+use mathlib.Core.Path.{sym, _∙_}
+use Prim.Native.Nat.{_*_}
 use lib.ListN.{length, getD}
 use borrow.Author.Tests.{le-leb, lt-leb, lt-ltb, le-ltb, not-true, not-false}
-use Rattle.rule_layouts.specs.Flat.{rectAt, placementAt}
+use Rattle.rule_layouts.specs.Flat.{placementAt}
 use Rattle.rule_calls.specs.Checks.{placementFits}
 use Rattle.call_checks.proofs.placement_fits.Statement.{statement}
 use Rattle.call_checks.proofs.placement_fits.Tie as tie

@@ -16,8 +16,6 @@ use Rattle.rule_layouts.proofs.Regular.{centreAt-below}
 use Rattle.call_passage.proofs.Passing.{start-blocked, end-blocked, route-ready, passes-not, passes, route-room, route-restored}
 use Rattle.call_passage.proofs.check_passage.Statement.{statement}
 use Rattle.call_passage.proofs.check_passage.Tie as tie
-use Rattle.call_passage.proofs.check_passage.Reads as reads
-use Rattle.call_passage.proofs.check_passage.Lts as lts
 
 -- a byte that is zero, or not, at a centre given by its number
 opened : (base : List ℕ) (k c : ℕ) → k ≡ c → getD base k 0 ≡ 0 → openIn base c ≡ true

@@ -9,7 +9,8 @@ use lib.ListN.{length, take}
 use borrow.Author.Tests.{le-leb, lt-leb, not-true, not-false}
 use Rattle.base_laws.specs.Lists.{allOf, below}
 use Rattle.rule_calls.specs.RecordCheck.{rowFits}
-use Rattle.call_record.specs.Lent.{figuresFit, capOf, routesPass, listPasses}
+use Rattle.call_rows.specs.Figures.{figuresFit, capOf, routesPass}
+use Rattle.call_lists.specs.Lent.{listPasses}
 use Rattle.call_record.proofs.Parts.{fails-1, fails-2, fails-3, fails-4, fails-5, comes-to, numbers-tell, record-parts}
 use Rattle.call_record.proofs.record_fits.Statement.{statement}
 use Rattle.call_record.proofs.record_fits.Tie as tie

@@ -1,10 +1,8 @@
 -- `search_rows::among` meets its contract: the set is among all rows exactly when it is among those not yet passed.
-use mathlib.Core.Path.{_≡_, refl, sym, _∙_, ap}
+use mathlib.Core.Path.{refl, sym, _∙_}
 use mathlib.Core.List.{List}
-use Prim.Native.Nat.{ℕ, suc, _+_, _-_, _≤_, _<_}
+use Prim.Native.Nat.{ℕ, _-_, _≤_}
 use native.Mathlib.Omega.{arith}
-use borrow.Author.Needs.{needs}
-use lib.ListN.{length, getD}
 use Rattle.search_rows.specs.Lay.{Seek}
 use Rattle.search_rows.proofs.Sets.{Looked, found, passed, none-left}
 use Rattle.search_rows.proofs.among.Statement.{statement}

@@ -1,7 +1,7 @@
 -- `search_rows::edge` meets its contract: a number that is not negative is its own size.
 use native.Mathlib.Omega.{arith}
-use mathlib.Core.Path.{_≡_, ap, _∙_}
-use lib.IntN.{ℤ, natAbs, pos}
+use mathlib.Core.Path.{_≡_, ap}
+use lib.IntN.{ℤ, pos}
 use mir.Facts.{toZ-ofZ}
 use Rattle.base_laws.specs.Ints.{up, dn}
 use Rattle.base_laws.proofs.Ints.{parts-sfits, natAbs-parts, nonNeg-parts}

@@ -1,11 +1,9 @@
 -- `search_rows::insert` meets its contract: from its place on each member goes one place on; `c` is the member that has been lifted.
-use mathlib.Core.Path.{_≡_, refl, sym, _∙_, ap, subst}
-use mathlib.Core.List.{List}
-use Prim.Native.Nat.{ℕ, suc, _+_, _-_, _≤_, _<_}
+use mathlib.Core.Path.{_≡_}
+use Prim.Native.Nat.{_-_, _≤_}
 use native.Mathlib.Omega.{arith}
 use borrow.Author.Needs.{needs}
-use lib.ListN.{length, getD, length-set}
-use Rattle.rule_calls.specs.Areas.{row}
+use lib.ListN.{length, length-set}
 use Rattle.search_rows.proofs.Sets.{Shift, shift-begin, shift-next, shift-close}
 use Rattle.search_rows.proofs.insert.Statement.{statement}
 use Rattle.search_rows.proofs.insert.Tie as tie

@@ -1,9 +1,9 @@
 -- `search_rows::kept_points` meets its contract: the sum of the routes passed, each below 2^32.
-use mathlib.Core.Path.{_≡_, refl, sym, _∙_, ap}
-use Prim.Native.Nat.{ℕ, _+_, _-_, _*_, _≤_}
+use mathlib.Core.Path.{_≡_, refl, _∙_, ap}
+use Prim.Native.Nat.{ℕ, _-_, _*_, _≤_}
 use native.Mathlib.Numerals.{add-one}
 use native.Mathlib.Omega.{arith}
-use lib.ListN.{length, take}
+use lib.ListN.{take}
 use Rattle.base_laws.specs.Lists.{total}
 use Rattle.rule_calls.proofs.Whole.{total-suc}
 use Rattle.search_rows.proofs.kept_points.Statement.{statement}

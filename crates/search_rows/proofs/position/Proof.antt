@@ -1,10 +1,9 @@
 -- `search_rows::position` meets its contract: the members passed are not above the placement, so it goes behind them.
-use mathlib.Core.Path.{_≡_, refl, sym, _∙_, ap}
+use mathlib.Core.Path.{_≡_, refl}
 use mathlib.Core.List.{List}
-use Prim.Native.Nat.{ℕ, suc, _+_, _-_, _≤_, _<_}
+use Prim.Native.Nat.{ℕ, _-_, _≤_}
 use native.Mathlib.Omega.{arith}
 use borrow.Author.Needs.{needs}
-use lib.ListN.{length, getD}
 use Rattle.rule_calls.specs.Areas.{row}
 use Rattle.search_rows.proofs.Sets.{Passed, place-here, place-on, place-end}
 use Rattle.search_rows.proofs.position.Statement.{statement}

@@ -1,8 +1,7 @@
 -- `search_rows::position_of` meets its contract: column and row are below the window's far edges.
 use borrow.Author.Needs.{needs}
 use native.Mathlib.Omega.{arith}
-use mathlib.Core.Path.{_≡_, refl, ap, _∙_, sym}
-use lib.IntN.{ℤ, pos}
+use mathlib.Core.Path.{refl, ap, _∙_}
 use Rattle.base_laws.specs.Ints.{up}
 use Rattle.ground_rects.proofs.Edges.{edges}
 use Rattle.search_rows.proofs.Points.{corner, pixel-is, pixel-some, pixel-fits}

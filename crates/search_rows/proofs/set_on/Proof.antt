@@ -1,12 +1,9 @@
 -- `search_rows::set_on` meets its contract: the row is that of the set on the lists passed.
-use mathlib.Core.Path.{_≡_, refl, sym, _∙_, ap, subst}
 use mathlib.Core.List.{List}
-use Prim.Native.Nat.{ℕ, suc, _+_, _-_, _≤_, _<_}
+use Prim.Native.Nat.{ℕ, _-_, _≤_}
 use native.Mathlib.Omega.{arith}
-use borrow.Author.Needs.{needs}
-use lib.ListN.{length, getD}
 use Rattle.rule_search.specs.State.{Extensions}
-use Rattle.search_rows.specs.Lay.{Stood, SomeStood}
+use Rattle.search_rows.specs.Lay.{Stood}
 use Rattle.search_rows.proofs.Stacks.{Sum, sum-begin, sum-next, sum-end, sum-head, reads-ok}
 use Rattle.search_rows.proofs.set_on.Statement.{statement}
 use Rattle.search_rows.proofs.set_on.Tie as tie

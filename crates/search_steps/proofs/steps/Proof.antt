@@ -4,7 +4,7 @@ use native.Mathlib.Omega.{arith}
 use Prim.Native.Nat.{_-_, _≤_}
 use mathlib.Core.Path.{refl, _∙_}
 use Rattle.ground_rects.specs.Windows.{centres}
-use Rattle.set_explore.specs.Ready.{Blank}
+use Rattle.set_board.specs.Ready.{Blank}
 use Rattle.search_steps.specs.Terms.{terms}
 use Rattle.search_steps.proofs.Stepping.{Stepping, Alike, stepping-begin, both-blank, places-are, seek-asks, visit-asks, stepping-stopped, stepping-on, stepping-end}
 use Rattle.search_steps.proofs.steps.Statement.{statement}

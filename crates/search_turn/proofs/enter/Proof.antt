@@ -1,9 +1,7 @@
 -- `search_turn::enter` meets its contract: one row is put after those in use, and the count goes up by one.
 use borrow.Author.Needs.{needs}
-use native.Mathlib.Omega.{arith}
-use Prim.Native.Nat.{ℕ, suc, _+_, _-_, _*_, _≤_, _<_}
-use mathlib.Core.Path.{_≡_, refl, sym, _∙_, ap}
-use Rattle.base_laws.specs.Fill.{over}
+use Prim.Native.Nat.{_-_}
+use mathlib.Core.Path.{refl}
 use Rattle.search_turn.proofs.enter.Statement.{statement}
 use Rattle.search_turn.proofs.enter.Tie as tie
 

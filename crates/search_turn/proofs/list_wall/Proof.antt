@@ -1,13 +1,11 @@
 -- `search_turn::list_wall` meets its contract: by the test of the points.
 use borrow.Author.Needs.{needs}
 use native.Mathlib.Omega.{arith}
-use Prim.Native.Nat.{ℕ, suc, _+_, _-_, _*_, _≤_, _<_}
-use mathlib.Core.Path.{_≡_, refl, sym, _∙_, ap}
+use Prim.Native.Nat.{ℕ, _+_, _-_}
+use mathlib.Core.Path.{_≡_, refl, _∙_, ap}
 use lib.ListN.{set, take}
 use Rattle.base_laws.specs.Lists.{total}
-use Rattle.base_laws.specs.Fill.{over}
 use Rattle.base_model.specs.declared.Record.{Record}
-use Rattle.rule_calls.specs.Areas.{numbers}
 use Rattle.search_turn.proofs.list_wall.Statement.{statement}
 use Rattle.search_turn.proofs.list_wall.Tie as tie
 

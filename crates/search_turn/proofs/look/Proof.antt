@@ -1,6 +1,6 @@
 -- `search_turn::look` meets its contract: each exit is one of the looks.
-use mathlib.Core.Path.{_≡_, sym, _∙_}
-use mathlib.Core.Bool.{true, false, true≢false}
+use mathlib.Core.Path.{sym, _∙_}
+use mathlib.Core.Bool.{true≢false}
 use Rattle.search_turn.proofs.Looks.{look-results, look-none, look-states, look-on}
 use Rattle.search_turn.proofs.look.Statement.{statement}
 use Rattle.search_turn.proofs.look.Tie as tie

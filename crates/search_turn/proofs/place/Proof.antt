@@ -1,8 +1,8 @@
 -- `search_turn::place` meets its contract: a list that is there begins within the area; with six lists there is none to begin.
 use borrow.Author.Needs.{needs}
 use native.Mathlib.Omega.{arith}
-use Prim.Native.Nat.{ℕ, suc, _+_, _-_, _*_, _≤_, _<_}
-use mathlib.Core.Path.{_≡_, refl, sym, _∙_, ap}
+use Prim.Native.Nat.{suc, _-_, _*_, _≤_}
+use mathlib.Core.Path.{refl}
 use native.Mathlib.Nat.{suc-mul, mul-le-mul-right}
 use Rattle.search_turn.proofs.place.Statement.{statement}
 use Rattle.search_turn.proofs.place.Tie as tie

@@ -1,7 +1,7 @@
 -- `search_turn::pop` meets its contract: the last list is cleared, and its length and next with it.
 use borrow.Author.Needs.{needs}
 use Prim.Native.Nat.{ℕ, _+_, _-_, _*_}
-use mathlib.Core.Path.{_≡_, ap, _∙_}
+use mathlib.Core.Path.{ap, _∙_}
 use native.Mathlib.Omega.{arith}
 use lib.ListN.{getD, set}
 use Rattle.base_laws.specs.Fill.{zeros, over}

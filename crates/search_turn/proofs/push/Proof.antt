@@ -1,8 +1,8 @@
 -- `search_turn::push` meets its contract: an empty list is not pushed; another one is counted, with its length at its place.
 use borrow.Author.Needs.{needs}
 use native.Mathlib.Omega.{arith}
-use Prim.Native.Nat.{ℕ, suc, _+_, _-_, _*_, _≤_, _<_}
-use mathlib.Core.Path.{_≡_, refl, sym, _∙_, ap}
+use Prim.Native.Nat.{ℕ, _+_, _-_}
+use mathlib.Core.Path.{refl, ap}
 use lib.ListN.{set}
 use Rattle.base_model.specs.declared.Record.{Record}
 use Rattle.search_turn.proofs.push.Statement.{statement}

@@ -1,7 +1,7 @@
 -- `search_turn::seen` meets its contract: the set on the lists is looked for among the visited rows.
 use borrow.Author.Needs.{needs}
 use mathlib.Core.List.{reverse}
-use Rattle.search_turn.proofs.Sights.{part-stood, part-seek, behind, below′, visited-inside, some-stood}
+use Rattle.search_turn.proofs.Sights.{part-stood, part-seek, visited-inside, some-stood}
 use Rattle.search_turn.proofs.seen.Statement.{statement}
 use Rattle.search_turn.proofs.seen.Tie as tie
 

@@ -8,11 +8,13 @@ use Rattle.rule_routes.specs.Edges.{stepsOf}
 use Rattle.rule_layouts.specs.Explore as layouts
 use Rattle.set_cover.specs.Cover.{moverIn, coverOf}
 use Rattle.route_find.specs.Results as routing
-use Rattle.set_explore.specs.Ready.{AreasKept, passed, flatBoard}
+use Rattle.set_board.specs.Board.{flatBoard}
+use Rattle.set_board.proofs.Ready.{named-rows}
+use Rattle.set_pass.specs.Pass.{AreasKept, passed}
+use Rattle.set_pass.proofs.Passing.{whole, wiped, lent-again}
+use Rattle.set_pass.proofs.Routed.{routed-none, routed-kept}
 use Rattle.set_explore.specs.Evaluation.{Evaluated}
-use Rattle.set_explore.proofs.Passing.{wiped, lent-again}
-use Rattle.set_explore.proofs.Evaluating.{routed-none}
-use Rattle.set_explore.proofs.Extending.{named-rows, routed-kept, whole, eval-extended}
+use Rattle.set_explore.proofs.Extending.{eval-extended}
 use Rattle.set_explore.proofs.evaluate.Statement.{statement}
 use Rattle.set_explore.proofs.evaluate.Tie as tie
 

@@ -10,8 +10,8 @@ use Rattle.ground_rects.proofs.Windows.{framed}
 use Rattle.rule_routes.specs.Edges.{stepsOf}
 use Rattle.rule_layouts.specs.Boards.{Board}
 use Rattle.rule_layouts.specs.Explore as layouts
+use Rattle.set_board.proofs.FlatBoard.{flat-board}
 use Rattle.set_explore.specs.Evaluation.{Evaluated}
-use Rattle.set_explore.proofs.FlatBoard.{flat-board}
 use Rattle.set_explore.proofs.explore.Statement.{statement}
 use Rattle.set_explore.proofs.explore.Tie as tie
 

@@ -11,8 +11,9 @@ use Rattle.rule_layouts.specs.Boards.{Mover, leavesOpen}
 use Rattle.set_cover.specs.Cover.{coverOf}
 use Rattle.route_find.specs.Ground.{openIn}
 use Rattle.route_find.specs.Results as routing
-use Rattle.set_explore.specs.Ready.{flatBoard, AreasKept}
-use Rattle.set_explore.proofs.Passing.{open-is, lent-again}
+use Rattle.set_board.specs.Board.{flatBoard}
+use Rattle.set_pass.specs.Pass.{AreasKept}
+use Rattle.set_pass.proofs.Passing.{open-is, lent-again}
 use Rattle.set_explore.proofs.Evaluating.{explore-blocked, explore-spare, eval-nothing, wallAnswer, eval-walled, flat-past, flat-minimal, flat-start, flat-end, flat-open}
 use Rattle.set_explore.proofs.wall_of.Statement.{statement}
 use Rattle.set_explore.proofs.wall_of.Tie as tie

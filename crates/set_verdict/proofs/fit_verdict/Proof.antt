@@ -2,10 +2,9 @@
 use mathlib.Core.Path.{_∙_}
 use native.Mathlib.Omega.{arith}
 use Rattle.rule_routes.specs.Edges.{stepsOf}
-use Rattle.set_cover.specs.Cover.{moverIn}
-use Rattle.set_explore.specs.Ready.{allowIn}
-use Rattle.set_explore.proofs.Passing.{lent-again}
-use Rattle.set_verdict.proofs.Judging.{fit-covered, fit-open, fit-shut, kept-on}
+use Rattle.set_cover.specs.Cover.{moverIn, allowIn}
+use Rattle.set_pass.proofs.Passing.{lent-again, kept-on}
+use Rattle.set_verdict.proofs.Judging.{fit-covered, fit-open, fit-shut}
 use Rattle.set_verdict.proofs.fit_verdict.Statement.{statement}
 use Rattle.set_verdict.proofs.fit_verdict.Tie as tie
 

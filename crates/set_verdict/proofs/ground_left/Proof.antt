@@ -7,7 +7,7 @@ use Prim.Native.Nat.{ℕ}
 use Rattle.ground_rects.specs.Windows.{centres}
 use Rattle.ground_rects.proofs.Windows.{framed}
 use Rattle.set_cover.specs.Cover.{coverOf, moverIn}
-use Rattle.set_explore.proofs.Extending.{whole}
+use Rattle.set_pass.proofs.Passing.{whole}
 use Rattle.set_verdict.proofs.Judging.{wiped-whole}
 use Rattle.set_verdict.proofs.Counting.{ground-flat}
 use Rattle.set_verdict.proofs.ground_left.Statement.{statement}

@@ -5,7 +5,7 @@ use native.Mathlib.Omega.{arith}
 use lib.ListN.{length}
 use Rattle.ground_rects.specs.Windows.{centres, centreAt}
 use Rattle.rule_routes.specs.Edges.{stepsOf}
-use Rattle.set_explore.proofs.Extending.{named-rows}
+use Rattle.set_board.proofs.Ready.{named-rows}
 use Rattle.set_verdict.proofs.Judging.{verdict-slots, verdict-overlap, verdict-fit, verdict-rule, lent-blank, wiped-whole, blank-again}
 use Rattle.set_verdict.proofs.verdict.Statement.{statement}
 use Rattle.set_verdict.proofs.verdict.Tie as tie

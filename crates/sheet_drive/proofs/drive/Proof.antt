@@ -1,39 +1,34 @@
 -- `drive`: prepare, then its refusal or the search.
-use borrow.Author.Needs.{needs}
+use native.Mathlib.Omega.{arith}
+use mathlib.Core.Path.{refl, sym}
 use Rattle.sheet_rule.specs.Drive.{noBytes, noWork}
 use Rattle.sheet_drive.proofs.Driving.{drive-refused, drive-nobody, drive-allowed}
 use Rattle.sheet_drive.proofs.drive.Statement.{statement}
 use Rattle.sheet_drive.proofs.drive.Tie as tie
 
 slice-aggregate-prepare : tie.Need-slice-aggregate-prepare
-slice-aggregate-prepare c = search needs
+slice-aggregate-prepare c = refl
 
 slice-aggregate-prepare-2 : tie.Need-slice-aggregate-prepare-2
-slice-aggregate-prepare-2 c = search needs
+slice-aggregate-prepare-2 c = refl
 
 slice-aggregate-prepare-3 : tie.Need-slice-aggregate-prepare-3
-slice-aggregate-prepare-3 c = search needs
+slice-aggregate-prepare-3 c = refl
 
 slice-aggregate-prepare-4 : tie.Need-slice-aggregate-prepare-4
-slice-aggregate-prepare-4 c = search needs
+slice-aggregate-prepare-4 c = refl
 
 slice-aggregate-prepare-5 : tie.Need-slice-aggregate-prepare-5
-slice-aggregate-prepare-5 c = search needs
+slice-aggregate-prepare-5 c = refl
 
 slice-aggregate-prepare-6 : tie.Need-slice-aggregate-prepare-6
-slice-aggregate-prepare-6 c = search needs
+slice-aggregate-prepare-6 c = refl
 
 prepare-requires : tie.Need-prepare-requires
-prepare-requires c κs = search needs
+prepare-requires c κs = tt
 
 enum-known-answer : tie.Need-enum-known-answer
-enum-known-answer c = search needs
-
-write-refusal-requires : tie.Need-write-refusal-requires
-write-refusal-requires c κs = search needs
-
-same-length : tie.Need-same-length
-same-length c = search needs
+enum-known-answer c = c .match .keys1
 
 -- the places of the walk, each seen from a later one
 abbrev start₁ : tie.After-slice-known → tie.Start
@@ -66,6 +61,9 @@ prepare₅ c = prepare₄ (block-base2₅ c)
 abbrev predecessors2₆ : tie.After-answer → tie.After-predecessors2
 predecessors2₆ c = c .before .before .before
 
+abbrev start₆ : tie.After-answer → tie.Start
+start₆ c = start₃ (queue₄ (block-base2₅ (predecessors2₆ c)))
+
 abbrev answer₇ : tie.After-out → tie.After-answer
 answer₇ c = c .before .before .before .before
 
@@ -73,7 +71,7 @@ abbrev prepare₇ : tie.After-out → tie.After-prepare
 prepare₇ c = prepare₅ (predecessors2₆ (answer₇ c))
 
 abbrev start₇ : tie.After-out → tie.Start
-start₇ c = start₃ (queue₄ (block-base2₅ (predecessors2₆ (answer₇ c))))
+start₇ c = start₆ (answer₇ c)
 
 abbrev enum-told₈ : tie.At-match2-keys1 → tie.After-enum-told
 enum-told₈ c = c .before
@@ -86,6 +84,9 @@ allow₉ c = c .before .before .before
 
 abbrev match2₉ : tie.After-counts3 → tie.At-match2-keys1
 match2₉ c = c .before .before .before .before
+
+abbrev prepare₉ : tie.After-counts3 → tie.After-prepare
+prepare₉ c = prepare₅ (predecessors2₈ (match2₉ c))
 
 abbrev counts3₁₀ : tie.After-route3 → tie.After-counts3
 counts3₁₀ c = c .before .before .before .before
@@ -112,7 +113,7 @@ abbrev enum-told₁₂ : tie.After-out2 → tie.After-enum-told
 enum-told₁₂ c = enum-told₈ (match2₉ (counts3₁₀ (route3₁₁ (map4₁₂ c))))
 
 abbrev prepare₁₂ : tie.After-out2 → tie.After-prepare
-prepare₁₂ c = prepare₅ (predecessors2₈ (match2₉ (counts3₁₀ (route3₁₁ (map4₁₂ c)))))
+prepare₁₂ c = prepare₉ (counts3₁₀ (route3₁₁ (map4₁₂ c)))
 
 abbrev enum-told₁₃ : tie.At-match2-keys2 → tie.After-enum-told
 enum-told₁₃ c = c .before
@@ -126,8 +127,14 @@ enum-told2₁₄ c = c .before .before .before
 abbrev match2₁₄ : tie.After-counts5 → tie.At-match2-keys2
 match2₁₄ c = c .before .before .before .before
 
+abbrev prepare₁₄ : tie.After-counts5 → tie.After-prepare
+prepare₁₄ c = prepare₅ (predecessors2₁₃ (match2₁₄ c))
+
 abbrev counts5₁₅ : tie.After-route5 → tie.After-counts5
 counts5₁₅ c = c .before .before .before .before
+
+abbrev start₁₅ : tie.After-route5 → tie.Start
+start₁₅ c = start₃ (queue₄ (block-base2₅ (predecessors2₁₃ (match2₁₄ (counts5₁₅ c)))))
 
 abbrev search₁₆ : tie.After-map6 → tie.After-search
 search₁₆ c = c .before .before
@@ -148,7 +155,13 @@ abbrev enum-told₁₇ : tie.After-out3 → tie.After-enum-told
 enum-told₁₇ c = enum-told₁₃ (match2₁₄ (counts5₁₅ (route5₁₆ (map6₁₇ c))))
 
 abbrev prepare₁₇ : tie.After-out3 → tie.After-prepare
-prepare₁₇ c = prepare₅ (predecessors2₁₃ (match2₁₄ (counts5₁₅ (route5₁₆ (map6₁₇ c)))))
+prepare₁₇ c = prepare₁₄ (counts5₁₅ (route5₁₆ (map6₁₇ c)))
+
+write-refusal-requires : tie.Need-write-refusal-requires
+write-refusal-requires c κs = omega (arith, start₆ (c .before .before) .pre)
+
+same-length : tie.Need-same-length
+same-length c = c .before .before .write-refusal .kept .0
 
 returns : tie.Need-returns
 unfolding noBytes noWork
@@ -162,35 +175,34 @@ returns c =
     (c .before .before .write-refusal .ensures)
 
 enum-told : tie.Need-enum-told
-enum-told c = search needs
+enum-told c = c .match .keys2
 
 enum-known-allow : tie.Need-enum-known-allow
-enum-known-allow c = search needs
+enum-known-allow c = c .match2 .keys1
 
 slice-aggregate-allowed : tie.Need-slice-aggregate-allowed
-slice-aggregate-allowed c = search needs
+slice-aggregate-allowed c = sym (prepare₅ (predecessors2₈ (c .before .before .before)) .prepare .kept .1 .1 .1 .1 .1 .1 .1 .1 .0)
 
 slice-aggregate-allowed-2 : tie.Need-slice-aggregate-allowed-2
-slice-aggregate-allowed-2 c = search needs
+slice-aggregate-allowed-2 c = sym (prepare₉ c .prepare .kept .1 .1 .1 .1 .1 .1 .1 .1 .1 .0)
 
 slice-aggregate-allowed-3 : tie.Need-slice-aggregate-allowed-3
-slice-aggregate-allowed-3 c = search needs
+slice-aggregate-allowed-3 c = sym (prepare₉ (c .before) .prepare .kept .1 .1 .1 .1 .1 .1 .1 .1 .1 .1 .0)
 
 slice-aggregate-allowed-4 : tie.Need-slice-aggregate-allowed-4
-slice-aggregate-allowed-4 c = search needs
+slice-aggregate-allowed-4 c = sym (prepare₉ (c .before .before) .prepare .kept .1 .1 .1 .1 .1 .1 .1 .1 .1 .1 .1 .0)
 
 slice-aggregate-allowed-5 : tie.Need-slice-aggregate-allowed-5
-slice-aggregate-allowed-5 c = search needs
+slice-aggregate-allowed-5 c = sym (prepare₉ (c .before .before .before) .prepare .kept .1 .1 .1 .1 .1 .1 .1 .1 .1 .1 .1 .1 .0)
 
 slice-aggregate-allowed-6 : tie.Need-slice-aggregate-allowed-6
-slice-aggregate-allowed-6 c = search needs
+slice-aggregate-allowed-6 c = sym (prepare₉ (counts3₁₀ c) .prepare .kept .1 .1 .1 .1 .1 .1 .1 .1 .1 .1 .1 .1 .1 .0)
 
 allowed-requires : tie.Need-allowed-requires
-allowed-requires c κs =
-    start₁₀ (c .before) .pre
+allowed-requires c κs = start₁₀ (c .before) .pre
 
 same-length-2 : tie.Need-same-length-2
-same-length-2 c = search needs
+same-length-2 c = allowed₁₂ (c .before) .allowed .kept .1 .1 .1 .1 .1 .1 .1 .1 .1 .1 .1 .1 .1 .1 .1 .1 .0
 
 returns-2 : tie.Need-returns-2
 unfolding noBytes noWork
@@ -204,34 +216,34 @@ returns-2 c =
     (λ m ms e. allowed₁₂ (c .before) .allowed .ensures s m ms h e)
 
 enum-told-2 : tie.Need-enum-told-2
-enum-told-2 c = search needs
+enum-told-2 c = c .match2 .keys2
 
 slice-aggregate-search : tie.Need-slice-aggregate-search
-slice-aggregate-search c = search needs
+slice-aggregate-search c = sym (prepare₅ (predecessors2₁₃ (c .before .before)) .prepare .kept .1 .1 .1 .1 .1 .1 .1 .1 .0)
 
 slice-aggregate-search-2 : tie.Need-slice-aggregate-search-2
-slice-aggregate-search-2 c = search needs
+slice-aggregate-search-2 c = refl
 
 slice-aggregate-search-3 : tie.Need-slice-aggregate-search-3
-slice-aggregate-search-3 c = search needs
+slice-aggregate-search-3 c = sym (prepare₁₄ c .prepare .kept .1 .1 .1 .1 .1 .1 .1 .1 .1 .0)
 
 slice-aggregate-search-4 : tie.Need-slice-aggregate-search-4
-slice-aggregate-search-4 c = search needs
+slice-aggregate-search-4 c = sym (prepare₁₄ (c .before) .prepare .kept .1 .1 .1 .1 .1 .1 .1 .1 .1 .1 .0)
 
 slice-aggregate-search-5 : tie.Need-slice-aggregate-search-5
-slice-aggregate-search-5 c = search needs
+slice-aggregate-search-5 c = sym (prepare₁₄ (c .before .before) .prepare .kept .1 .1 .1 .1 .1 .1 .1 .1 .1 .1 .1 .0)
 
 slice-aggregate-search-6 : tie.Need-slice-aggregate-search-6
-slice-aggregate-search-6 c = search needs
+slice-aggregate-search-6 c = sym (prepare₁₄ (c .before .before .before) .prepare .kept .1 .1 .1 .1 .1 .1 .1 .1 .1 .1 .1 .1 .0)
 
 slice-aggregate-search-7 : tie.Need-slice-aggregate-search-7
-slice-aggregate-search-7 c = search needs
+slice-aggregate-search-7 c = sym (prepare₁₄ (counts5₁₅ c) .prepare .kept .1 .1 .1 .1 .1 .1 .1 .1 .1 .1 .1 .1 .1 .0)
 
 search-requires : tie.Need-search-requires
-search-requires c κs = search needs
+search-requires c κs = start₁₅ (c .before) .pre
 
 same-length-3 : tie.Need-same-length-3
-same-length-3 c = search needs
+same-length-3 c = search₁₇ (c .before) .search .kept .1 .1 .1 .1 .1 .1 .1 .1 .1 .1 .1 .1 .0
 
 returns-3 : tie.Need-returns-3
 unfolding noBytes noWork

@@ -3,7 +3,7 @@ use borrow.Author.Needs.{needs}
 use native.Mathlib.Omega.{arith}
 use mathlib.Core.Path.{refl}
 use Rattle.text_forms.specs.Patterns.{good, repeats}
-use Rattle.sheet_read.proofs.Told.{map-is, map-isnt, rows-are, rows-arent, lines-are, lines-arent, limits-are, limits-arent, groups-are, groups-arent}
+use Rattle.sheet_lines.proofs.Told.{map-is, map-isnt, rows-are, rows-arent, lines-are, lines-arent, limits-are, limits-arent, groups-are, groups-arent}
 use Rattle.sheet_read.proofs.Whole.{no-map, no-obstacles, no-lines, no-limits, no-groups, no-places, no-end, whole-sheet}
 use Rattle.sheet_read.proofs.read_sheet.Statement.{statement}
 use Rattle.sheet_read.proofs.read_sheet.Tie as tie

@@ -1,29 +1,31 @@
 -- `search`: begin, then its refusal or the step.
-use borrow.Author.Needs.{needs}
 use native.Mathlib.Omega.{arith}
-use mathlib.Core.Path.{refl, _∙_}
+use mathlib.Core.Path.{refl, sym, _∙_}
+use Rattle.rule_layouts.specs.Inputs.{Inputs}
+use Rattle.rule_layouts.specs.Flat.{inputsOf}
+use Rattle.rule_calls.specs.Areas.{Work, workIn}
 use Rattle.sheet_rule.specs.Drive.{noStore}
 use Rattle.sheet_search.proofs.Searching.{search-refused, search-steppable, search-finished}
 use Rattle.sheet_search.proofs.search.Statement.{statement}
 use Rattle.sheet_search.proofs.search.Tie as tie
 
 slice-aggregate-begin : tie.Need-slice-aggregate-begin
-slice-aggregate-begin c = search needs
+slice-aggregate-begin c = refl
 
 slice-aggregate-begin-2 : tie.Need-slice-aggregate-begin-2
-slice-aggregate-begin-2 c = search needs
+slice-aggregate-begin-2 c = refl
 
 slice-aggregate-begin-3 : tie.Need-slice-aggregate-begin-3
-slice-aggregate-begin-3 c = search needs
+slice-aggregate-begin-3 c = refl
 
 slice-aggregate-begin-4 : tie.Need-slice-aggregate-begin-4
-slice-aggregate-begin-4 c = search needs
+slice-aggregate-begin-4 c = refl
 
 begin-requires : tie.Need-begin-requires
-begin-requires c κs = search needs
+begin-requires c κs = tt
 
 enum-known-answer : tie.Need-enum-known-answer
-enum-known-answer c = search needs
+enum-known-answer c = c .match .keys1
 
 -- the places of the walk, each seen from a later one
 abbrev start₁ : tie.After-shared-slice-known4 → tie.Start
@@ -128,8 +130,18 @@ finish₁₇ c = finish₁₄ (counts2₁₅ (queue2₁₆ (route2₁₇ c)))
 abbrev enum-told₁₇ : tie.After-layouts4 → tie.After-enum-told
 enum-told₁₇ c = enum-told₁₃ (layouts3₁₄ (counts2₁₅ (queue2₁₆ (route2₁₇ c))))
 
+abbrev start₁₇ : tie.After-layouts4 → tie.Start
+start₁₇ c = start₁₃ (layouts3₁₄ (counts2₁₅ (queue2₁₆ (route2₁₇ c))))
+
 abbrev begin₁₇ : tie.After-layouts4 → tie.After-begin
 begin₁₇ c = begin₁₃ (layouts3₁₄ (counts2₁₅ (queue2₁₆ (route2₁₇ c))))
+
+-- what begin is given. Written out, since the areas that are found for a `_` are dear
+abbrev inputs : tie.Start → Inputs
+inputs c = inputsOf (c .args .query) (c .args .groups .now) (c .args .numbers .now) (c .args .edges .now) (c .args .block-base .now) (c .args .allow-base .now)
+
+abbrev work : tie.Start → Work
+work c = workIn (c .args .counts .now) (c .args .map .now) (c .args .queue .now) (c .args .predecessors .now) (c .args .route .now)
 
 write-refusal-requires : tie.Need-write-refusal-requires
 write-refusal-requires c κs = omega (arith, start₉ (c .before .before) .pre)
@@ -156,31 +168,34 @@ returns : tie.Need-returns
 unfolding noStore
 returns c =
     let at-begin = begin₁₀ (c .before) in
-    search-refused _ _ _ _ (at-begin .begin .result .answer) _ _ _ (at-begin .begin .ensures) _ _ _ _
-    (answer₁₀ (c .before) .answer .given .1) (start₁₀ (c .before) .pre) (c .before .before .write-refusal .ensures)
+    let start = start₁₀ (c .before) in
+    search-refused (inputs start) (start .args .limits) (work start) noStore (at-begin .begin .result .answer) _ _ _ (at-begin .begin .ensures) _ _ _ _
+    (answer₁₀ (c .before) .answer .given .1) (start .pre) (c .before .before .write-refusal .ensures)
 
 enum-told : tie.Need-enum-told
-enum-told c = search needs
+enum-told c = c .match .keys2
 
 slice-aggregate-finish : tie.Need-slice-aggregate-finish
-slice-aggregate-finish c = search needs
+slice-aggregate-finish c = sym (begin₁₂ (c .before .before) .begin .kept .1 .1 .1 .1 .1 .1 .1 .1 .1 .1 .1 .1 .0)
 
 slice-aggregate-finish-2 : tie.Need-slice-aggregate-finish-2
-slice-aggregate-finish-2 c = search needs
+slice-aggregate-finish-2 c = sym (begin₁₂ (c .before .before .before) .begin .kept .1 .1 .1 .1 .1 .1 .1 .1 .1 .1 .1 .1 .1 .0)
 
 slice-aggregate-finish-3 : tie.Need-slice-aggregate-finish-3
-slice-aggregate-finish-3 c = search needs
+slice-aggregate-finish-3 c = sym (begin₁₃ c .begin .kept .1 .1 .1 .1 .1 .1 .1 .1 .1 .1 .1 .1 .1 .1 .0)
 
 slice-aggregate-finish-4 : tie.Need-slice-aggregate-finish-4
-slice-aggregate-finish-4 c = search needs
+slice-aggregate-finish-4 c = sym (begin₁₃ (c .before) .begin .kept .1 .1 .1 .1 .1 .1 .1 .1 .1 .1 .1 .1 .1 .1 .1 .0)
 
 finish-requires : tie.Need-finish-requires
+unfolding noStore
 finish-requires c κs =
     let at-layouts3 = c .before .before in
     let at-begin = begin₁₃ at-layouts3 in
-    search-steppable _ _ _ _ (at-begin .begin .result .answer) _ _ _ (at-begin .begin .ensures)
+    let start = start₁₃ at-layouts3 in
+    search-steppable (inputs start) (start .args .limits) (work start) noStore (at-begin .begin .result .answer) _ _ _ (at-begin .begin .ensures)
     (enum-told₁₃ at-layouts3 .enum-told .given .1) _ _
-    (omega (arith, at-begin .begin .kept .1 .1 .1 .1 .1 .1 .1 .1 .1 .1 .1 .1 .1 .1 .1 .0)) (start₁₃ at-layouts3 .pre)
+    (omega (arith, at-begin .begin .kept .1 .1 .1 .1 .1 .1 .1 .1 .1 .1 .1 .1 .1 .1 .1 .0)) (start .pre)
 
 same-length-7 : tie.Need-same-length-7
 same-length-7 c =
@@ -215,7 +230,9 @@ unfolding noStore
 returns-2 c =
     let at-layouts4 = c .before .before .before in
     let at-begin = begin₁₇ at-layouts4 in
-    search-finished _ _ _ _ (at-begin .begin .result .answer) _ _ _ (at-begin .begin .ensures) (enum-told₁₇ at-layouts4 .enum-told .given .1) _ _ _ (finish₁₇ at-layouts4 .finish .ensures)
+    let start = start₁₇ at-layouts4 in
+    search-finished (inputs start) (start .args .limits) (work start) noStore (at-begin .begin .result .answer) _ _ _ (at-begin .begin .ensures)
+    (enum-told₁₇ at-layouts4 .enum-told .given .1) _ _ _ (finish₁₇ at-layouts4 .finish .ensures)
 
 pub search-spec : {M : Type 1} → statement M
 search-spec =

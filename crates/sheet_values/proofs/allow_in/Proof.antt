@@ -3,9 +3,6 @@ use Rattle.sheet_values.proofs.Values.{nobody-in, bounded-in}
 use borrow.Author.Needs.{needs}
 use Rattle.sheet_values.proofs.allow_in.Statement.{statement}
 use Rattle.sheet_values.proofs.allow_in.Tie as tie
-use Rattle.sheet_values.proofs.allow_in.Reads as reads
-use Rattle.sheet_values.proofs.allow_in.Lts as lts
-use Rattle.sheet_values.proofs.bounds_in.Reads as bounds-in-reads
 
 returns : tie.Need-returns
 returns c = nobody-in (c .before .before .args .allow) (c .before .before .args .fixed .now) (c .if1 .taken)

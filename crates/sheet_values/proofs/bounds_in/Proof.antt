@@ -3,8 +3,6 @@ use Rattle.sheet_values.proofs.Values.{bounds-made}
 use borrow.Author.Needs.{needs}
 use Rattle.sheet_values.proofs.bounds_in.Statement.{statement}
 use Rattle.sheet_values.proofs.bounds_in.Tie as tie
-use Rattle.sheet_values.proofs.bounds_in.Reads as reads
-use Rattle.sheet_values.proofs.bounds_in.Lts as lts
 
 mul-t3 : tie.Need-mul-t3
 mul-t3 c = search needs

@@ -8,9 +8,6 @@ use Rattle.base_laws.proofs.Fill.{filling-none, filling-more, filling-all}
 use Rattle.sheet_values.specs.Inner.{edgeAt}
 use Rattle.sheet_values.proofs.edges_of.Statement.{statement}
 use Rattle.sheet_values.proofs.edges_of.Tie as tie
-use Rattle.sheet_values.proofs.edges_of.Reads as reads
-use Rattle.sheet_values.proofs.edges_of.Lts as lts
-use Rattle.sheet_words.proofs.edge.Reads as edge-reads
 
 abbrev Inv-loop : tie.InvT-loop
 Inv-loop words n out₀ k₀ out k = Filling (edgeAt words) (8 * n) out₀ out k

@@ -4,8 +4,6 @@ use Rattle.sheet_values.specs.Inner.{limitsRead}
 use borrow.Author.Needs.{needs}
 use Rattle.sheet_values.proofs.limits_in.Statement.{statement}
 use Rattle.sheet_values.proofs.limits_in.Tie as tie
-use Rattle.sheet_values.proofs.limits_in.Reads as reads
-use Rattle.sheet_values.proofs.limits_in.Lts as lts
 
 shared-slice-read-t3 : tie.Need-shared-slice-read-t3
 shared-slice-read-t3 c = search needs

@@ -1,5 +1,4 @@
 -- `sheet_values::numbers_of` meets its contract: a filling: at each turn entry k is number k of the places' words. The measure is the number of entries left.
-use borrow.Author.Needs.{needs}
 use mathlib.Core.Path.{refl}
 use Prim.Native.Nat.{_*_, _-_}
 use native.Mathlib.Omega.{arith}
@@ -8,8 +7,6 @@ use Rattle.base_laws.proofs.Fill.{filling-none, filling-more, filling-all}
 use Rattle.sheet_values.specs.Inner.{numberAt}
 use Rattle.sheet_values.proofs.numbers_of.Statement.{statement}
 use Rattle.sheet_values.proofs.numbers_of.Tie as tie
-use Rattle.sheet_values.proofs.numbers_of.Reads as reads
-use Rattle.sheet_values.proofs.numbers_of.Lts as lts
 
 abbrev Inv-loop : tie.InvT-loop
 Inv-loop words n out₀ k₀ out k = Filling (numberAt words) (4 * n) out₀ out k

@@ -4,8 +4,6 @@ use Rattle.sheet_values.specs.Inner.{positionIn}
 use borrow.Author.Needs.{needs}
 use Rattle.sheet_values.proofs.position_in.Statement.{statement}
 use Rattle.sheet_values.proofs.position_in.Tie as tie
-use Rattle.sheet_values.proofs.position_in.Reads as reads
-use Rattle.sheet_values.proofs.position_in.Lts as lts
 
 mul-t3 : tie.Need-mul-t3
 mul-t3 c = search needs

@@ -3,12 +3,6 @@ use Rattle.sheet_values.proofs.Values.{query-made}
 use borrow.Author.Needs.{needs}
 use Rattle.sheet_values.proofs.query_in.Statement.{statement}
 use Rattle.sheet_values.proofs.query_in.Tie as tie
-use Rattle.sheet_values.proofs.query_in.Reads as reads
-use Rattle.sheet_values.proofs.query_in.Lts as lts
-use Rattle.sheet_values.proofs.allow_in.Reads as allow-in-reads
-use Rattle.sheet_values.proofs.bounds_in.Reads as bounds-in-reads
-use Rattle.sheet_values.proofs.position_in.Reads as position-in-reads
-use Rattle.sheet_words.proofs.rect_in.Reads as rect-in-reads
 
 rect-in-requires : tie.Need-rect-in-requires
 rect-in-requires c κs = search needs

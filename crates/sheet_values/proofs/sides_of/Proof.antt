@@ -1,16 +1,13 @@
 -- `sheet_values::sides_of` meets its contract: a filling: at each turn entry k is word k as a signed number. The measure is the number of entries left.
 use borrow.Author.Needs.{needs}
 use Rattle.sheet_values.proofs.Values.{edge-same}
-use Prim.Native.Nat.{_*_, _-_}
+use Prim.Native.Nat.{_-_}
 use native.Mathlib.Omega.{arith}
 use Rattle.base_laws.specs.Fill.{Filling}
 use Rattle.base_laws.proofs.Fill.{filling-none, filling-more, filling-all}
 use Rattle.sheet_values.specs.Inner.{sideAt}
 use Rattle.sheet_values.proofs.sides_of.Statement.{statement}
 use Rattle.sheet_values.proofs.sides_of.Tie as tie
-use Rattle.sheet_values.proofs.sides_of.Reads as reads
-use Rattle.sheet_values.proofs.sides_of.Lts as lts
-use Rattle.sheet_words.proofs.edge.Reads as edge-reads
 
 abbrev Inv-loop : tie.InvT-loop
 Inv-loop words n out₀ k₀ out k = Filling (sideAt words) (n) out₀ out k

@@ -4,7 +4,7 @@ use mathlib.Core.Path.{refl}
 use native.Mathlib.Omega.{arith}
 use lib.ListN.{length}
 use Rattle.text_forms.proofs.Puts.{put-same}
-use Rattle.sheet_write.proofs.Left.{room-as}
+use Rattle.sheet_put.proofs.Left.{room-as}
 use Rattle.sheet_texts.proofs.Texts.{head-exhausted, head-states, head-results, head-running}
 use Rattle.sheet_write.proofs.put_head.Statement.{statement}
 use Rattle.sheet_write.proofs.put_head.Tie as tie

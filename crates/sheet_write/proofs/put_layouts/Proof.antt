@@ -7,7 +7,7 @@ use lib.ListN.{length, take}
 use Rattle.base_laws.specs.Lists.{below, flat, total}
 use Rattle.text_forms.proofs.Puts.{put-same}
 use Rattle.sheet_texts.specs.Parts.{rowText}
-use Rattle.sheet_write.proofs.Left.{room-as, Reached, turns-start, turns-long, turns-room, turns-more, turns-done}
+use Rattle.sheet_put.proofs.Left.{room-as, Reached, turns-start, turns-long, turns-room, turns-more, turns-done}
 use Rattle.sheet_texts.proofs.Texts.{row-text}
 use Rattle.sheet_texts.proofs.Lengths.{here, route-next, route-taken}
 use Rattle.sheet_write.proofs.put_layouts.Statement.{statement}

@@ -1,7 +1,7 @@
 -- `write_result`: the first line, then those of the layouts.
 use borrow.Author.Needs.{needs}
 use native.Mathlib.Omega.{arith}
-use Rattle.sheet_write.proofs.Lines.{Known, head-room, rows-room, result-put}
+use Rattle.sheet_write.proofs.Results.{Known, head-room, rows-room, result-put}
 use Rattle.sheet_write.proofs.write_result.Statement.{statement}
 use Rattle.sheet_write.proofs.write_result.Tie as tie
 

@@ -6,7 +6,6 @@ use Rattle.rule_routes.specs.Edges.{eightSteps}
 use Rattle.rule_layouts.specs.Flat.{inputsOf}
 use Rattle.rule_calls.specs.Areas.{Work, workIn}
 use Rattle.rule_calls.specs.Calls.{judgeCall}
-use Rattle.walls_numbers.specs.Numbers.{queryFrom}
 use Rattle.walls_numbers.proofs.Left.{judge-left}
 use Rattle.walls_numbers.proofs.Signed.{query-back}
 use Rattle.walls_c.proofs.hitrovzen_judge.Statement.{statement}

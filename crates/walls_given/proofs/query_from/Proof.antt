@@ -3,7 +3,6 @@ use borrow.Author.Needs.{needs}
 use mathlib.Core.Path.{ap₂}
 use Rattle.base_model.specs.declared.Allow.{Allow}
 use Rattle.base_model.specs.declared.Rect.{Rect}
-use Rattle.base_model.specs.declared.Query.{Query}
 use Rattle.walls_numbers.specs.Numbers.{queryFrom}
 use Rattle.walls_numbers.proofs.Signed.{rect-back}
 use Rattle.walls_given.proofs.query_from.Statement.{statement}

@@ -1,7 +1,6 @@
 -- `walls_on::read_on` meets its contract: refused, both numbers are 0; accepted, they tell where the route is.
 use borrow.Author.Needs.{needs}
 use mathlib.Core.Path.{sym, _∙_, ap}
-use Prim.Native.Nat.{ℕ}
 use native.Mathlib.Omega.{arith}
 use lib.ListN.{length, getD, take}
 use lib.Seq.{length-take-le}

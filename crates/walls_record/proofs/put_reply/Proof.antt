@@ -8,7 +8,6 @@ use Rattle.walls_numbers.proofs.Fifty.{left-short, left-laid}
 use borrow.Author.Needs.{needs}
 use Rattle.walls_record.proofs.put_reply.Statement.{statement}
 use Rattle.walls_record.proofs.put_reply.Tie as tie
-use Rattle.walls_record.proofs.put_record.Reads as put-record-reads
 
 returns : tie.Need-returns
 returns c = left-short _ _ _ (omega arith)

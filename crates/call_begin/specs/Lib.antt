@@ -1,2 +1,0 @@
-pub mod Movers
-pub mod Fresh

@@ -1,0 +1,2 @@
+pub mod FlatBoard
+pub mod Ready

@@ -1,0 +1,5 @@
+pub mod Nearby
+pub mod Passing
+pub mod Lifting
+pub mod Routed
+pub mod Allowing

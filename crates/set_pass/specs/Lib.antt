@@ -1,0 +1,3 @@
+pub mod Pass
+pub mod Maps
+pub mod Allowed
