@@ -168,6 +168,30 @@ impl Map {
 }
 
 /// How far a search may go.
+///
+/// A search that a limit has stopped can be made again by the same planner with raised limits: once the new search has stopped, what
+/// was listed before stands at the top of its list, in the same order, with the same routes, and it has evaluated no fewer sets.
+///
+/// ```
+/// # use hitrovzen::{Bounds, Limits, Map, Placement, Plan, Planner, Position, Reason, Rect, Refusal};
+/// # fn main() -> Result<(), Refusal> {
+/// # let mut plan = Plan::new(Map::open(1, 1), Rect::new(0, 0, 5, 3), Position::new(0, 1), Position::new(4, 1), Bounds::new(0, 1, 0, 0));
+/// # plan.allow = Some(Bounds::default());
+/// # plan.groups = vec![1];
+/// # plan.placements = [2, 1].map(|left| Placement::solid(0, Rect::new(left, 0, left + 1, 2))).to_vec();
+/// # let planner = Planner::new(plan)?;
+/// let mut short = planner.search(Limits { states: 100, results: 1 })?;
+/// assert_eq!(short.run()?, Reason::ResultLimit);
+/// let mut long = planner.search(Limits::WIDEST)?;
+/// assert_eq!(long.run()?, Reason::Exhausted);
+/// for (before, now) in short.layouts().zip(long.layouts()) {
+///     assert_eq!(before.indexes(), now.indexes());
+///     assert!(before.route()?.eq(now.route()?));
+/// }
+/// assert_eq!((short.layouts().len(), long.layouts().len()), (1, 2));
+/// # Ok(())
+/// # }
+/// ```
 #[derive(Clone, Copy, Debug, PartialEq, Eq, Hash)]
 pub struct Limits {
     /// The most sets that may be evaluated, 1 to 100,000.

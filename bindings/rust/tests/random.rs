@@ -1,5 +1,5 @@
-//! Plans drawn at random: the walls listed are those found by judging every selection, and no input, however wild, ends in anything
-//! but an answer.
+//! Plans drawn at random: the walls listed are those found by judging every selection, raised limits leave the walls found before
+//! at the top, and no input, however wild, ends in anything but an answer.
 
 use std::collections::BTreeSet;
 
@@ -111,6 +111,56 @@ fn the_walls_listed_are_those_judged() {
     assert!(searches > 1_000, "{searches}");
     assert!(walls > 500, "{walls}");
     assert!(larger > 100, "{larger}");
+}
+
+/// The sets evaluated and the layouts with their routes, once a search in portions has stopped.
+fn found(planner: &Planner, limits: Limits, n: u32) -> (u32, Vec<(Vec<u16>, Vec<Position>)>) {
+    let mut search = planner.search(limits).unwrap();
+    let mut before = Vec::new();
+    loop {
+        let reason = search.step(n).unwrap();
+        let layouts: Vec<_> = search
+            .layouts()
+            .map(|layout| {
+                let route: Vec<Position> = layout.route().unwrap().collect();
+                (layout.indexes().to_vec(), route)
+            })
+            .collect();
+        assert!(layouts.starts_with(&before), "the list only grows");
+        if reason != Reason::Running {
+            return (search.evaluations(), layouts);
+        }
+        before = layouts;
+    }
+}
+
+#[test]
+fn raised_limits_extend_the_list() {
+    let mut dice = Dice(20_261_116);
+    let (mut cut, mut longer, mut routes) = (0, 0, 0);
+    for _ in 0..8_000 {
+        let Ok(planner) = Planner::new(small(&mut dice)) else {
+            continue;
+        };
+        let low = Limits {
+            states: 1 + dice.below(16) as u32,
+            results: 1 + dice.below(3) as u32,
+        };
+        let high = Limits {
+            states: low.states + dice.below(30) as u32,
+            results: low.results + dice.below(6) as u32,
+        };
+        let (few, first) = found(&planner, low, 1 + dice.below(5) as u32);
+        let (many, second) = found(&planner, high, 1 + dice.below(5) as u32);
+        assert!(second.starts_with(&first), "{:?}", planner.plan());
+        assert!(few <= many, "{:?}", planner.plan());
+        cut += usize::from(few < many);
+        longer += usize::from(!first.is_empty() && first.len() < second.len());
+        routes += first.iter().filter(|(_, route)| !route.is_empty()).count();
+    }
+    assert!(cut > 500, "{cut}");
+    assert!(longer > 100, "{longer}");
+    assert!(routes > 100, "{routes}");
 }
 
 /// Fields at the ends of their types and around the bounds of the calls.

@@ -10,3 +10,4 @@ pub mod Tables
 pub mod Turns
 pub mod Blocks
 pub mod Firsts
+pub mod Starts

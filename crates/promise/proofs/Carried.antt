@@ -1,10 +1,11 @@
 -- What is carried through a list of calls: record and store are those of the begun search after some number of evaluations. A refused call and a reading leave
 -- them as they were; an accepted step reads back the search that was laid out and lays out the search after so many evaluations more.
-use Prim.Native.Nat.{ℕ, _+_}
+use Prim.Native.Nat.{ℕ, _+_, _≤_}
 use mathlib.Core.Path.{_≡_, refl, sym, _∙_, ap, subst}
 use mathlib.Core.Bool.{true}
 use mathlib.Core.Option.{Option, none, some}
 use mathlib.Core.List.{List}
+use native.Mathlib.Omega.{arith}
 use lib.ListN.{length}
 use Rattle.base_model.specs.Answers.{Said, first}
 use Rattle.base_model.specs.declared.Limits.{Limits}
@@ -31,8 +32,10 @@ module _ (steps : List Step) (once : eachOnce steps ≡ true) (i : Inputs) (l : 
   abbrev pub shown : State → Store → Held
   shown s a = record { rec = recordOf (length (i .places)) s; store = storeOf i l s a }
 
-  pub record Carried (h : Held) : Type 0 where
+  -- after some number of evaluations, at least `least`
+  pub record Carried (least : ℕ) (h : Held) : Type 0 where
     pub evaluations : ℕ
+    pub enough : least ≤ evaluations
     pub over : Store
     pub same : h ≡ shown (searched evaluations) over
 
@@ -48,38 +51,42 @@ module _ (steps : List Step) (once : eachOnce steps ≡ true) (i : Inputs) (l : 
         (regular-board steps i once (fair .startIn) (fair .endIn)) n
 
     -- ---- one call
-    stepped : (h : Held) (n : ℕ) (work : Work) → first (stepChecks i l (h .rec) work (h .store)) ≡ none → Carried h
-        → Carried (after steps h (stepping i l n work))
+    pub stepped : (least : ℕ) (h : Held) (n : ℕ) (work : Work) → first (stepChecks i l (h .rec) work (h .store)) ≡ none → Carried least h
+        → Carried (least + n) (after steps h (stepping i l n work))
     unfolding after leaves left
-    stepped h n work e v =
+    stepped least h n work e v =
         let s = searched (v .evaluations) in
         let p = planOf steps i l in
         let read = ap (λ (x : Held). stateOf (x .rec) (x .store)) (v .same) ∙ left-reads steps once i l s (good (v .evaluations)) work (v .over) in
         record {
           evaluations = v .evaluations + n;
+          enough = (let k = v .enough in omega arith);
           over = h .store;
           same = ap leaves (step-is steps once i l (h .rec) work (h .store) e n)
               ∙ ap (λ (t : State). shown (step p n t) (h .store)) read
               ∙ ap (λ (t : State). shown t (h .store)) (sym (step-add p (v .evaluations) n begun));
         }
 
+    fewer : (least n : ℕ) {h : Held} → Carried (least + n) h → Carried least h
+    fewer least n v = record { evaluations = v .evaluations; enough = (let k = v .enough in omega arith); over = v .over; same = v .same }
+
     refused : (h : Held) (j : Inputs) (m : Limits) (n : ℕ) (work : Work) (r : Said)
         → first (stepChecks j m (h .rec) work (h .store)) ≡ some r → after steps h (stepping j m n work) ≡ h
     unfolding after leaves stepCall
     refused h j m n work r e = rw (after, stepCall, e) refl
 
-    pub carries : (h : Held) (c : Call) → Faithful steps i l h c → Carried h → Carried (after steps h c)
+    pub carries : (least : ℕ) (h : Held) (c : Call) → Faithful steps i l h c → Carried least h → Carried least (after steps h c)
     unfolding after Faithful answerTo inputsIn limitsIn stepCall
-    carries h (reading j m k) f v = v
-    carries h (stepping j m n work) f v = go (first (stepChecks j m (h .rec) work (h .store))) refl
+    carries least h (reading j m k) f v = v
+    carries least h (stepping j m n work) f v = go (first (stepChecks j m (h .rec) work (h .store))) refl
       where
-        go : (o : Option Said) → first (stepChecks j m (h .rec) work (h .store)) ≡ o → Carried (after steps h (stepping j m n work))
-        go (some r) e = subst Carried (sym (refused h j m n work r e)) v
+        go : (o : Option Said) → first (stepChecks j m (h .rec) work (h .store)) ≡ o → Carried least (after steps h (stepping j m n work))
+        go (some r) e = subst (Carried least) (sym (refused h j m n work r e)) v
         go none e =
             let b = f (rw (answerTo, stepCall, e) refl) in
-            subst (λ (x : Inputs). first (stepChecks x m (h .rec) work (h .store)) ≡ none → Carried (after steps h (stepping x m n work))) (sym (b .0))
-            (subst (λ (y : Limits). first (stepChecks i y (h .rec) work (h .store)) ≡ none → Carried (after steps h (stepping i y n work))) (sym (b .1))
-            (λ q. stepped h n work q v)) e
+            subst (λ (x : Inputs). first (stepChecks x m (h .rec) work (h .store)) ≡ none → Carried least (after steps h (stepping x m n work))) (sym (b .0))
+            (subst (λ (y : Limits). first (stepChecks i y (h .rec) work (h .store)) ≡ none → Carried least (after steps h (stepping i y n work))) (sym (b .1))
+            (λ q. fewer least n (stepped least h n work q v))) e
 
   -- ---- begin
   module _ (work : Work) (store : Store) (yes : beginCall steps i l work store .answer ≡ none) where
@@ -89,6 +96,6 @@ module _ (steps : List Step) (once : eachOnce steps ≡ true) (i : Inputs) (l : 
         let e = step-checks steps once i l (a .rec) (a .work) (a .store) 0 (begin-accepted steps once i l work store yes 0) in
         step-passed steps once i l (a .rec) (a .work) (a .store) e .fair
 
-    pub begin-carried : Carried (leaves (beginCall steps i l work store))
+    pub begin-carried : Carried 0 (leaves (beginCall steps i l work store))
     unfolding leaves left step
-    begin-carried = record { evaluations = 0; over = store; same = ap leaves (begin-is steps once i l work store yes) }
+    begin-carried = record { evaluations = 0; enough = omega arith; over = store; same = ap leaves (begin-is steps once i l work store yes) }

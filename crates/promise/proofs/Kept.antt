@@ -54,7 +54,7 @@ use Rattle.promise.proofs.Carried.{searched, shown, Carried, good, exac
 module _ (steps : List Step) (once : eachOnce steps ≡ true) (i : Inputs) (l : Limits) where
   -- ---- layouts laid out
   module _ (s : State) (g : Good (boardOf steps i) (planOf steps i l) s) (a : Store) (k : ℕ) (h : k < length (s .layouts)) where
-    row-read : layoutAt (shown steps once i l s a) k ≡ getD (s .layouts) k noLayout .members
+    pub row-read : layoutAt (shown steps once i l s a) k ≡ getD (s .layouts) k noLayout .members
     unfolding layoutAt storeOf
     row-read =
         let C : List ℕ = flat (map (λ (y : Layout). row (y .members)) (s .layouts)) in
@@ -62,7 +62,7 @@ module _ (steps : List Step) (once : eachOnce steps ≡ true) (i : Inputs) (l : 
         ap (λ (q : List ℕ). rowOf q k) (laid-front n C (a .layouts))
         ∙ row-back (λ (y : Layout). y .members) (s .layouts) (zeros (n - length C) ++ drop n (a .layouts)) noLayout k (good-room steps i l s g .shown) h
 
-    points-read : pointsOf (shown steps once i l s a .rec) (shown steps once i l s a .store .points) k ≡ numbers (getD (s .layouts) k noLayout .route)
+    pub points-read : pointsOf (shown steps once i l s a .rec) (shown steps once i l s a .store .points) k ≡ numbers (getD (s .layouts) k noLayout .route)
     unfolding storeOf recordOf
     points-read =
         let C : List ℕ = flat (map routeNumbers (s .layouts)) in
@@ -84,7 +84,7 @@ module _ (steps : List Step) (once : eachOnce steps ≡ true) (i : Inputs) (l : 
         record { at = p .0; among = p .1; same = row-read s g a (p .0) (p .1) ∙ ap members-of (p .2) ∙ y .2 }
 
   -- ---- what is carried
-  module _ (fair : Fair i l) (h : Held) (v : Carried steps once i l h) where
+  module _ (fair : Fair i l) (h : Held) (v : Carried steps once i l 0 h) where
     abbrev s : State
     s = searched steps once i l (v .evaluations)
 
@@ -156,27 +156,28 @@ module _ (steps : List Step) (once : eachOnce steps ≡ true) (i : Inputs) (l : 
 
   -- ---- along the list
   module _ (fair : Fair i l) where
-    all-read : (h : Held) (cs : List Call) → Carried steps once i l h → Along steps (Faithful steps i l) h cs → Along steps (Reads steps i) h cs
+    all-read : (h : Held) (cs : List Call) → Carried steps once i l 0 h → Along steps (Faithful steps i l) h cs → Along steps (Reads steps i) h cs
     unfolding Along
     all-read h [] v f = tt
-    all-read h (c ∷ cs) v f = (held-reads fair h v c, all-read (after steps h c) cs (carries steps once i l fair h c (f .0) v) (f .1))
+    all-read h (c ∷ cs) v f = (held-reads fair h v c, all-read (after steps h c) cs (carries steps once i l fair 0 h c (f .0) v) (f .1))
 
-    carried-on : (h : Held) (cs : List Call) → Carried steps once i l h → Along steps (Faithful steps i l) h cs → Carried steps once i l (run steps h cs)
+    pub carried-on : (least : ℕ) (h : Held) (cs : List Call) → Carried steps once i l least h → Along steps (Faithful steps i l) h cs
+        → Carried steps once i l least (run steps h cs)
     unfolding Along run
-    carried-on h [] v f = v
-    carried-on h (c ∷ cs) v f = carried-on (after steps h c) cs (carries steps once i l fair h c (f .0) v) (f .1)
+    carried-on least h [] v f = v
+    carried-on least h (c ∷ cs) v f = carried-on least (after steps h c) cs (carries steps once i l fair least h c (f .0) v) (f .1)
 
   module _ (s : Search steps i l) where
-    search-fair : Fair i l
+    pub search-fair : Fair i l
     search-fair = begin-fair steps once i l (s .work) (s .store) (s .accepted)
 
-    begins-carried : Carried steps once i l (begins steps s)
+    pub begins-carried : Carried steps once i l 0 (begins steps s)
     unfolding begins
     begins-carried = begin-carried steps once i l (s .work) (s .store) (s .accepted)
 
-    ends-carried : Carried steps once i l (ends steps s)
+    pub ends-carried : Carried steps once i l 0 (ends steps s)
     unfolding ends begins
-    ends-carried = carried-on search-fair (begins steps s) (s .calls) begins-carried (s .faithful)
+    ends-carried = carried-on search-fair 0 (begins steps s) (s .calls) begins-carried (s .faithful)
 
     -- exhausted: the layouts are exactly the walls
     pub exhausted-exact : HasExhausted (ends steps s) → (set : List ℕ) → IsWall (boardOf steps i) set ↔ Listed (ends steps s) set

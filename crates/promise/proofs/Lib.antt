@@ -1,4 +1,4 @@
 pub mod Places
 pub mod Carried
 pub mod Kept
-pub mod Example
+pub mod Extended

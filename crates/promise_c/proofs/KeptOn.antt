@@ -19,13 +19,18 @@ use Rattle.promise_c.specs.PromiseOn.{HeldOn, layoutsOn, layoutOn, Liste
 use Rattle.promise_c.proofs.OnNumbers.{heldOf, Whole, begin-yes, begin-held, begin-kept, answer-held, after-held, after-kept}
 
 -- ---- along a list of calls
-run-held : (h : HeldOn) (cs : List Call) → Whole (h .numbers) → heldOf (runOn h cs) ≡ run eightSteps (heldOf h) cs
+pub run-held : (h : HeldOn) (cs : List Call) → Whole (h .numbers) → heldOf (runOn h cs) ≡ run eightSteps (heldOf h) cs
 unfolding runOn run
 run-held h [] v = refl
 run-held h (c ∷ cs) v = run-held (afterOn h c) cs (after-kept h v c) ∙ ap (λ (x : Held). run eightSteps x cs) (after-held h v c)
 
+run-kept : (h : HeldOn) (cs : List Call) → Whole (h .numbers) → Whole (runOn h cs .numbers)
+unfolding runOn
+run-kept h [] v = v
+run-kept h (c ∷ cs) v = run-kept (afterOn h c) cs (after-kept h v c)
+
 module _ (i : Inputs) (l : Limits) where
-  faithful-held : (h : HeldOn) (cs : List Call) → Whole (h .numbers) → AlongOn (FaithfulOn i l) h cs → Along eightSteps (Faithful eightSteps i l) (heldOf h) cs
+  pub faithful-held : (h : HeldOn) (cs : List Call) → Whole (h .numbers) → AlongOn (FaithfulOn i l) h cs → Along eightSteps (Faithful eightSteps i l) (heldOf h) cs
   unfolding AlongOn Along FaithfulOn Faithful numberIn
   faithful-held h [] v f = tt
   faithful-held h (c ∷ cs) v f = (
@@ -50,15 +55,15 @@ module _ (i : Inputs) (l : Limits) where
 
 -- ---- the search that the C calls make
 module _ (i : Inputs) (l : Limits) (s : SearchOn i l) where
-  begun-held : heldOf (beginsOn s) ≡ leaves (beginCall eightSteps i l (s .work) (s .store))
+  pub begun-held : heldOf (beginsOn s) ≡ leaves (beginCall eightSteps i l (s .work) (s .store))
   unfolding beginsOn
   begun-held = begin-held i l (s .numbers) (s .work) (s .store) (s .accepted)
 
-  begun-kept : Whole (beginsOn s .numbers)
+  pub begun-kept : Whole (beginsOn s .numbers)
   unfolding beginsOn
   begun-kept = begin-kept i l (s .numbers) (s .work) (s .store) (s .accepted)
 
-  searched : Search eightSteps i l
+  unfoldable pub searched : Search eightSteps i l
   unfolding beginsOn
   searched = record {
     work = s .work;
@@ -69,11 +74,15 @@ module _ (i : Inputs) (l : Limits) (s : SearchOn i l) where
         (faithful-held i l (beginsOn s) (s .calls) begun-kept (s .faithful));
   }
 
-  ends-held : heldOf (endsOn s) ≡ ends eightSteps searched
+  pub ends-held : heldOf (endsOn s) ≡ ends eightSteps searched
   unfolding endsOn ends begins searched
   ends-held = run-held (beginsOn s) (s .calls) begun-kept ∙ ap (λ (x : Held). run eightSteps x (s .calls)) begun-held
 
-  exhausted-held : HasExhaustedOn (endsOn s) → HasExhausted (ends eightSteps searched)
+  pub ends-kept : Whole (endsOn s .numbers)
+  unfolding endsOn
+  ends-kept = run-kept (beginsOn s) (s .calls) begun-kept
+
+  pub exhausted-held : HasExhaustedOn (endsOn s) → HasExhausted (ends eightSteps searched)
   unfolding HasExhaustedOn HasExhausted recordFrom numberOf
   exhausted-held e = subst HasExhausted ends-held e
 

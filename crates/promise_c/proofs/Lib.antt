@@ -1,3 +1,3 @@
 pub mod OnNumbers
 pub mod KeptOn
-pub mod Example
+pub mod ExtendedOn

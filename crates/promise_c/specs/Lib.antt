@@ -1,1 +1,2 @@
 pub mod PromiseOn
+pub mod LongerOn

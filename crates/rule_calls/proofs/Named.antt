@@ -9,12 +9,13 @@ use Rattle.base_model.specs.Answers.{Said, refusal, ask, first}
 use Rattle.base_model.specs.declared.Rect.{Rect}
 use Rattle.base_model.specs.declared.Placement.{Placement}
 use Rattle.base_model.specs.declared.Limits.{Limits}
+use Rattle.base_model.specs.declared.Record.{Record}
 use Rattle.rule_routes.specs.Edges.{Step}
 use Rattle.rule_layouts.specs.Boards.{Mover, Board}
 use Rattle.rule_layouts.specs.Inputs.{Inputs, boardOf}
 use Rattle.rule_calls.specs.Areas.{Work, Store}
 use Rattle.rule_calls.specs.Checks.{groupChecks, limitChecks, queryChecks, routeChecks, placementFits, firstMisplaced, placeChecks}
-use Rattle.rule_calls.specs.Calls.{beginChecks, bothRoutes, beginCall}
+use Rattle.rule_calls.specs.Calls.{beginChecks, bothRoutes, beginCall, stepChecks, stepCall}
 
 pub data Named : Option Said → Type 0 where
   Named·passed : Named none
@@ -81,7 +82,7 @@ routes-named g = then-named (routeChecks g (g .block)) _ (route-named g (g .bloc
     go none = last-named
     go (some m) = route-named g m
 
--- ---- begin
+-- ---- begin, step
 module _ (steps : List Step) (i : Inputs) (l : Limits) (w : Work) (a : Store) where
   pub begin-named : Named (beginCall steps i l w a .answer)
   unfolding beginCall beginChecks
@@ -94,3 +95,13 @@ module _ (steps : List Step) (i : Inputs) (l : Limits) (w : Work) (a : Store) wh
       go none e f none g h = rw (beginCall, e, g) Named·passed
       go none e f (some x) g h = rw (beginCall, e, g) h
       go (some x) e f p g h = rw (beginCall, e) f
+
+  pub step-named : (r : Record) (n : ℕ) → Named (stepCall steps i l r n w a .answer)
+  unfolding stepCall stepChecks beginChecks
+  step-named r n = go (first (stepChecks i l r w a)) refl
+      (then-named (beginChecks i l w a ++ placeChecks i) _ (then-named (beginChecks i l w a) (placeChecks i) (query-named i l _) (place-named i))
+      (asks-named 16 _ [] (omega arith) last-named))
+    where
+      go : (o : Option Said) → first (stepChecks i l r w a) ≡ o → Named o → Named (stepCall steps i l r n w a .answer)
+      go none e h = rw (stepCall, e) Named·passed
+      go (some x) e h = rw (stepCall, e) h

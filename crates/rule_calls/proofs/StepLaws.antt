@@ -82,6 +82,7 @@ placed w groups j (p ∷ ps) cs e k h = go (placementFits w groups p) refl e k h
 -- what begin's checks and those of the placements have found
 pub record Fair (i : Inputs) (l : Limits) : Type 0 where
   pub slots : total (i .groups) ≤ 6
+  pub room : 1 ≤ l .states
   pub some : 1 ≤ l .results
   pub few : l .results ≤ 32
   pub startIn : inWindow (i .query .window) (i .query .start) ≡ true
@@ -107,6 +108,7 @@ fair i l long e f =
       both (basesFit i) long (u .0) .1,
       record {
         slots = leb-true (total (i .groups)) 6 (h .1);
+        room = leb-true 1 (l .states) (both (leb 1 (l .states)) (leb (l .states) 100000) (s .0) .0);
         some = leb-true 1 (l .results) (m .0);
         few = leb-true (l .results) 32 (m .1);
         startIn = y .0;

@@ -1,10 +1,12 @@
--- Small searches with an evaluation given by hand, computed by the checker.
-use Prim.Native.Nat.{ℕ, zero, suc, _+_}
-use mathlib.Core.Path.{_≡_, refl}
+-- Small searches with an evaluation given by hand, computed by the checker; the last, with routes of any length, step by step.
+use Prim.Native.Nat.{ℕ, zero, suc, _+_, _<_}
+use mathlib.Core.Path.{_≡_, refl, sym, _∙_, ap}
 use mathlib.Core.Bool.{Bool, true, false}
 use mathlib.Core.List.{List, [], _∷_, _++_, map}
+use native.Mathlib.Omega.{arith}
 use lib.Dec.{leb}
 use lib.ListN.{length}
+use borrow.Author.Tests.{lt-leb}
 use Rattle.base_laws.specs.Lists.{anyOf, allOf, firstOf, total, same, putIn}
 use Rattle.base_model.specs.declared.Position.{Position}
 use Rattle.rule_layouts.specs.Explore.{Outcome, Nothing, Extend, Wall}
@@ -14,6 +16,7 @@ use Rattle.rule_search.specs.State.{
   Exhausted,
   StateLimit,
   ResultLimit,
+  Extensions,
   Layout,
   State,
   state,
@@ -40,6 +43,9 @@ use Rattle.rule_search.specs.Frames.{
   step,
   begun,
 }
+use Rattle.rule_search.proofs.Moves.{resultLimit-stops}
+use Rattle.rule_search.proofs.Raised.{Grows, stopped-longer}
+use Rattle.rule_search.proofs.Steps.{advance-goes, advance-ends, step-add, step-stopped}
 
 -- a name under which the search unfolds
 unfoldable pub searching : ℕ
@@ -155,3 +161,39 @@ pub points-full : (p : Plan) (r : List Position) (set : List ℕ) (s : State) �
     evaluated p (Wall r) set s ≡ state ResultLimit false (s .lists) (s .visited ++ set ∷ []) (s .layouts)
 unfolding evaluated
 points-full p r set s e = rw (e, evaluated) refl
+
+-- ---- the points limit
+-- a wall past which the allowed route is r, after a wall with no points
+evaluateLong : List Position → List ℕ → Outcome Position
+evaluateLong r [] = Extend (0 ∷ 1 ∷ [])
+evaluateLong r (zero ∷ s) = Wall []
+evaluateLong r (suc i ∷ s) = Wall r
+
+onlyFirst : List Layout
+onlyFirst = record { members = 0 ∷ []; route = [] } ∷ []
+
+entry : ℕ → List Extensions
+entry n = record { entries = 0 ∷ 1 ∷ []; next = n } ∷ []
+
+-- At result limit 1 the search stops by the number of layouts; at 32, where r has more than 1,000,000 points, by that of points: the second wall is evaluated and
+-- not listed.
+points-limited : (r : List Position) → 1000000 < length r
+    → (step (plan (evaluateLong r) 100 1) 9 begun ≡ state ResultLimit false (entry 1) two onlyFirst)
+    × (step (plan (evaluateLong r) 100 32) 9 begun ≡ state ResultLimit false (entry 2) three onlyFirst)
+unfolding searching evaluateLong onlyFirst entry plan two three
+points-limited r h =
+    let p : Plan = plan (evaluateLong r) 100 32 in
+    let s : State = state Running false (entry 1) two onlyFirst in
+    let t : State = state Running true (entry 2) two onlyFirst in
+    let u : State = state ResultLimit false (entry 2) three onlyFirst in
+    let long : leb (pointsKept onlyFirst + length r) 1000000 ≡ false = lt-leb (pointsKept onlyFirst + length r) 1000000 (omega arith) in
+    let second : advance p s ≡ u = advance-goes p s t refl ∙ advance-ends p t u (ap ends (points-full p r (1 ∷ []) t long)) in
+    let first : step p 2 begun ≡ s = refl in
+    (refl, step-add p 2 7 begun ∙ ap (step p 7) first ∙ ap (step p 6) second ∙ step-stopped p 6 u resultLimit-stops)
+
+-- and the second search begins with the first
+points-longer : (r : List Position) → 1000000 < length r → Grows (step (plan (evaluateLong r) 100 1) 9 begun) (step (plan (evaluateLong r) 100 32) 9 begun)
+unfolding searching plan
+points-longer r h =
+    stopped-longer (plan (evaluateLong r) 100 1) (plan (evaluateLong r) 100 32) (record { alike = λ w. refl; states = omega arith; results = omega arith }) 9 9 begun
+    (λ e. resultLimit-stops (sym (ap (λ (s : State). s .reason) (points-limited r h .1)) ∙ e))

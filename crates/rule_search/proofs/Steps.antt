@@ -1,5 +1,6 @@
 -- How frames make up steps. Each frame that goes on leaves fewer frames, so the frames counted are enough and more change nothing; a + b in one step
--- is a and then b; after a stop nothing changes; a step by n hands n sets to the evaluation, or the search stops, and it looks at no other evaluation.
+-- is a and then b; after a stop nothing changes; a step by n hands n sets to the evaluation, or the search stops, and it looks at no other evaluation; a step by
+-- the state limit or more stops a begun search.
 use Prim.Native.Nat.{ℕ, zero, suc, _+_, _≤_, _<_}
 use mathlib.Core.Path.{_≡_, refl, sym, _∙_, ap, subst}
 use mathlib.Core.Bool.{Bool, true, false, not, _&&_}
@@ -14,8 +15,8 @@ use Rattle.base_laws.proofs.Lists.{length-snoc}
 use Rattle.base_laws.proofs.Sets.{is-among, not-among}
 use Rattle.base_model.specs.declared.Position.{Position}
 use Rattle.rule_layouts.specs.Explore.{Outcome}
-use Rattle.rule_search.specs.State.{Reason, Running, Exhausted, StateLimit, ResultLimit, Extensions, Layout, State, setOn, framesLeft}
-use Rattle.rule_search.specs.Frames.{Plan, Frame, goes, ends, atStateLimit, frame, frames, advance, step}
+use Rattle.rule_search.specs.State.{Reason, Running, Exhausted, StateLimit, ResultLimit, Extensions, Layout, State, state, setOn, framesLeft}
+use Rattle.rule_search.specs.Frames.{Plan, Frame, goes, ends, atStateLimit, frame, frames, advance, step, begun}
 use Rattle.rule_search.specs.Formed.{Fresh}
 use Rattle.rule_search.proofs.Moves.{
   held,
@@ -42,6 +43,7 @@ use Rattle.rule_search.proofs.Moves.{
   step-keeps,
   exhausted-stops,
   stateLimit-stops,
+  resultLimit-stops,
 }
 
 -- ---- the measure: a frame that goes on leaves fewer frames
@@ -106,6 +108,11 @@ module _ (p : Plan) where
 
   pub frame-stopped : (s : State) → s .reason ≢ Running → frame p (s .reason) s ≡ ends s
   frame-stopped s h = move-is (idle h)
+
+  pub frames-stopped : (n : ℕ) (s : State) → s .reason ≢ Running → frames p n s ≡ s
+  unfolding frames
+  frames-stopped zero s h = refl
+  frames-stopped (suc n) s h = rw (frames, frame-stopped s h)
 
   pub step-stopped : (n : ℕ) (s : State) → s .reason ≢ Running → step p n s ≡ s
   unfolding step
@@ -298,3 +305,33 @@ move-states p _ _ (overfull {ls = ls} {v = v} q h e i) k = omega (arith, length-
 
 pub step-states : (p : Plan) (n : ℕ) (s : State) → length (s .visited) ≤ p .states → length (step p n s .visited) ≤ p .states
 step-states p = step-keeps p (λ s. length (s .visited) ≤ p .states) (move-states p)
+
+-- ---- a running search may evaluate further, so a step by the state limit or more stops it
+abbrev Room : Plan → State → Type 0
+Room p s = s .reason ≡ Running → length (s .visited) < p .states
+
+looked-room : {p : Plan} {b : Bool} {ls : List Extensions} {v : List (List ℕ)} {ys : List Layout} {r : Reason} → Looked p b ls v ys r → r ≡ Running → length v < p .states
+looked-room (on h i k) e = k
+looked-room (atResults h) e = absurd (resultLimit-stops e)
+looked-room (noneLeft h i j) e = absurd (exhausted-stops e)
+looked-room (atStates h i k) e = absurd (stateLimit-stops e)
+
+move-room : (p : Plan) → Keeps p (Room p)
+move-room p _ _ (idle h) k = k
+move-room p _ _ (limited h) k = λ e. absurd (stateLimit-stops e)
+move-room p _ _ (finished h) k = λ e. absurd (exhausted-stops e)
+move-room p _ _ (repeated h m) k = λ e. h
+move-room p _ _ (spent h m) k = λ e. h
+move-room p _ _ (taken h m l) k = looked-room l
+move-room p _ _ (nothing h e l) k = looked-room l
+move-room p _ _ (extended es h e l) k = looked-room l
+move-room p _ _ (listed q h e i l) k = looked-room l
+move-room p _ _ (overfull q h e i) k = λ e. absurd (resultLimit-stops e)
+
+pub step-full : (p : Plan) → 0 < p .states → (n : ℕ) → p .states ≤ n → step p n begun .reason ≢ Running
+unfolding begun state
+step-full p h n j e =
+    let k = step-keeps p (Room p) (move-room p) n begun (λ r. h) e in
+    let v = ap length (step-hands p n begun) in
+    let c = handed-all p n begun e in
+    omega arith

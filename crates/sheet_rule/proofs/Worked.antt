@@ -12,7 +12,7 @@ use Rattle.text_forms.specs.Patterns.{bytes}
 use Rattle.rule_calls.proofs.Computing.{computing}
 use Rattle.rule_layouts.specs.Flat.{inputsOf}
 use Rattle.sheet_texts.specs.Texts.{refusalText, reasonText, spaced, pointText, layoutText, resultText}
-use Rattle.sheet_form.specs.Sheets.{Sheet, sheet, signedOf, rectOf, withinCaps}
+use Rattle.sheet_form.specs.Sheets.{Sheet, sheet, signedOf, rectOf, withinCaps, Accepted}
 use Rattle.sheet_rule.specs.Drive.{
   boundsOf,
   startOf,
@@ -62,7 +62,7 @@ drive-P : driveText eightSteps P ≡ bytes "(result Exhausted 4 3 2)\n(layout 0 
 unfolding P driving
 drive-P = refl
 
-abbrev textP : List ℕ
+abbrev pub textP : List ℕ
 textP =
     bytes "(map 1 1 1)\n(window 0 0 5 3)\n(ends 0 1 4 1)\n(block 0 0 0 0)\n(limits 100 32)\n(groups 2)\n"
     ++ bytes "(place 0 0 0 0 (2 0 3 3) (2 0 3 3))\n(place 0 0 0 0 (2 0 3 2) (2 0 3 2))\n(place 0 0 0 0 (2 2 3 3) (2 2 3 3))\n"
@@ -169,5 +169,8 @@ fits-P = (
   ),
 )
 
+pub accepted-P : Accepted textP P
+accepted-P = record { short = short-P; fits = fits-P; spelled = spelled-P; capped = capped-P }
+
 pub P-answer : AnswerOf textP (bytes "(result Exhausted 4 3 2)\n(layout 0 (0) ())\n(layout 1 (1 2) ())\n")
-P-answer = subst (λ (l : List ℕ). AnswerOf textP l) drive-P (driven P (record { short = short-P; fits = fits-P; spelled = spelled-P; capped = capped-P }))
+P-answer = subst (λ (l : List ℕ). AnswerOf textP l) drive-P (driven P accepted-P)

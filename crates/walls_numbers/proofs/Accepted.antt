@@ -16,11 +16,11 @@ use Rattle.rule_layouts.specs.Inputs.{Inputs}
 use Rattle.rule_calls.specs.Areas.{Work, Store, storeIn, storeFits, pointsOf}
 use Rattle.rule_calls.specs.Checks.{groupChecks, limitChecks, queryChecks, placeChecks}
 use Rattle.rule_calls.specs.Calls.{beginChecks, beginCall, stepChecks, stepCall, readChecks, ReadOut, readCall}
-use Rattle.rule_calls.proofs.Named.{Named, Named·passed, Named·refused, last-named, then-named, asks-named, place-named, query-named, begin-named}
+use Rattle.rule_calls.proofs.Named.{Named, Named·passed, Named·refused, last-named, then-named, asks-named, place-named, query-named, begin-named, step-named}
 use Rattle.rule_calls.proofs.Reading.{read-checks, read-is, read-refused}
 use Rattle.call_read.specs.Told.{numberIn, indexIn}
 use Rattle.walls_numbers.specs.Numbers.{recordFrom, numbersAfter}
-use Rattle.walls_numbers.specs.Left.{fifty, beginChecksOn, stepChecksOn, turned, leftBy, beginOn, stepOn, readChecksOn, placeOf, readOn}
+use Rattle.walls_numbers.specs.Left.{Left, fifty, beginChecksOn, stepChecksOn, turned, leftBy, beginOn, stepOn, readChecksOn, placeOf, readOn}
 use Rattle.walls_numbers.specs.Lent.{lentOf, recordIn}
 use Rattle.walls_numbers.proofs.Fifty.{lent-whole, in-whole}
 use Rattle.walls_numbers.proofs.Lent.{lent-is, begin-fifty, begin-same, step-same, read-read, read-same}
@@ -87,6 +87,12 @@ module _ (i : Inputs) (l : Limits) (ns : List ℕ) (a : Store) (whole : 50 ≤ l
             ∙ e
             in
             rw (e, stepOn, f, stepCall, leftBy)
+
+    pub step-accepted : (n : ℕ) (w : Work) → stepOn i l ns n w a .answer ≡ 0 → stepCall eightSteps i l (recordFrom ns) n w a .answer ≡ none
+    unfolding leftBy
+    step-accepted n w e =
+        passed (stepCall eightSteps i l (recordFrom ns) n w a .answer) (step-named eightSteps i l w a (recordFrom ns) n)
+        (sym (ap (λ (x : Left). x .answer) (step-whole n w)) ∙ e)
 
     pub read-whole : (k : ℕ) → readOn i l ns k a ≡ placeOf (readCall i l (recordFrom ns) k a .answer) (recordFrom ns) k
     unfolding readOn

@@ -35,49 +35,49 @@ use Rattle.promise.specs.Promise.{
   ends,
   Promise,
 }
 use Rattle.promise.proofs.Kept.{promise}
 
 -- The blocked mover reaches one pixel up, so that either place shuts it out of both rows left to it; the allowed mover gets by in the last row.
-unfoldable i : Inputs
-i = inputsOf (onOpenCell (box 0 0 5 3) (at 0 1) (at 4 1) (bounds 0 1 0 0) (Bounded still0) (limits 10 4) (1 ∷ [])
+unfoldable pub gap : Inputs
+gap = inputsOf (onOpenCell (box 0 0 5 3) (at 0 1) (at 4 1) (bounds 0 1 0 0) (Bounded still0) (limits 10 4) (1 ∷ [])
     (plain (box 2 0 3 2) ∷ plain (box 1 0 2 2) ∷ []))
 
 -- another search's inputs: no places
-unfoldable other : Inputs
+unfoldable pub other : Inputs
 other = inputsOf (onOpenCell (box 0 0 5 3) (at 0 1) (at 4 1) still0 (Bounded still0) (limits 10 4) [] [])
 
 -- one search's own step and reading
-unfoldable stepBy : Inputs → Limits → ℕ → Call
+unfoldable pub stepBy : Inputs → Limits → ℕ → Call
 stepBy j l n = stepping j l n (workFor (box 0 0 5 3))
 
-unfoldable beginOn : Inputs → Limits → Held
+unfoldable pub beginOn : Inputs → Limits → Held
 beginOn j l = leaves (beginCall eightSteps j l (workFor (box 0 0 5 3)) (storeFor j l))
 
 -- ---- what the calls of a list say
-data Told : Type 0 where
+pub data Told : Type 0 where
   refused : Said → Told
   stands : (reason evaluations layouts : ℕ) → Told
   reads : List ℕ → Told
 
-unfoldable told : Held → Call → Option Said → Told
+unfoldable pub told : Held → Call → Option Said → Told
 told h c (some r) = refused r
 told h (stepping j m n work) none = let t : Held = after eightSteps h (stepping j m n work) in stands (t .rec .reason) (t .rec .evaluations) (t .rec .layouts)
 told h (reading j m k) none = reads (readCall j m (h .rec) k (h .store) .points)
 
-unfoldable tells : Held → List Call → List Told
+unfoldable pub tells : Held → List Call → List Told
 tells h [] = []
 tells h (c ∷ cs) = told h c (answerTo eightSteps h c) ∷ tells (after eightSteps h c) cs
 
-unfoldable without : ℕ → Told
+unfoldable pub without : ℕ → Told
 without n = refused (refusal n)
 
-unfoldable listing : Held → List (List ℕ)
+unfoldable pub listing : Held → List (List ℕ)
 listing h = map (layoutAt h) (below (h .rec .layouts))
 
 -- a name under which all of this unfolds
-unfoldable promising : ℕ
+unfoldable pub promising : ℕ
 unfolding computing driving exchanged inputsIn limitsIn leaves layoutAt HasExhausted answerTo after run Along
-    Faithful begins ends i other stepBy beginOn told tells
+    Faithful begins ends gap other stepBy beginOn told tells
     without listing
 promising = 0
 
@@ -87,19 +87,19 @@ l = limits 10 4
 
 unfoldable outCalls : List Call
 outCalls =
-    stepBy i l 1 ∷ reading i l 0 ∷ stepBy other l 1 ∷ stepBy i l 1 ∷ reading i l 0 ∷ reading i (limits 10 33) 0 ∷ stepBy i l 7 ∷ reading i l 1 ∷ []
+    stepBy gap l 1 ∷ reading gap l 0 ∷ stepBy other l 1 ∷ stepBy gap l 1 ∷ reading gap l 0 ∷ reading gap (limits 10 33) 0 ∷ stepBy gap l 7 ∷ reading gap l 1 ∷ []
 
-out-told : tells (beginOn i l) outCalls
+out-told : tells (beginOn gap l) outCalls
     ≡ stands 1 1 0 ∷ without 17 ∷ without 16 ∷ stands 1 2 1 ∷ reads (0 ∷ 1 ∷ 1 ∷ 2 ∷ 2 ∷ 2 ∷ 3 ∷ 2 ∷ 4 ∷ 1 ∷ []) ∷ without 12 ∷ stands 2 3 2
     ∷ reads (0 ∷ 1 ∷ 0 ∷ 2 ∷ 1 ∷ 2 ∷ 2 ∷ 2 ∷ 3 ∷ 2 ∷ 4 ∷ 1 ∷ []) ∷ []
 unfolding promising l outCalls
 out-told = refl
 
-unfoldable out : Search eightSteps i l
+unfoldable out : Search eightSteps gap l
 unfolding promising l outCalls
 out = record {
   work = workFor (box 0 0 5 3);
-  store = storeFor i l;
+  store = storeFor gap l;
   accepted = refl;
   calls = outCalls;
   faithful = (
@@ -127,25 +127,25 @@ out-exhausted : HasExhausted (ends eightSteps out)
 unfolding promising l outCalls out
 out-exhausted = refl
 
-out-kept : Promise eightSteps i l out
-out-kept = promise eightSteps eight-once i l out
+out-kept : Promise eightSteps gap l out
+out-kept = promise eightSteps eight-once gap l out
 
 -- ---- back: from end to start, with other limits
 unfoldable m : Limits
 m = limits 5 3
 
 unfoldable backCalls : List Call
-backCalls = stepBy (exchanged i) m 2 ∷ stepBy i (limits 0 3) 1 ∷ stepBy (exchanged i) m 3 ∷ reading (exchanged i) m 0 ∷ []
+backCalls = stepBy (exchanged gap) m 2 ∷ stepBy gap (limits 0 3) 1 ∷ stepBy (exchanged gap) m 3 ∷ reading (exchanged gap) m 0 ∷ []
 
-back-told : tells (beginOn (exchanged i) m) backCalls ≡ stands 1 2 1 ∷ without 11 ∷ stands 2 3 2 ∷ reads (4 ∷ 1 ∷ 3 ∷ 2 ∷ 2 ∷ 2 ∷ 1 ∷ 2 ∷ 0 ∷ 1 ∷ []) ∷ []
+back-told : tells (beginOn (exchanged gap) m) backCalls ≡ stands 1 2 1 ∷ without 11 ∷ stands 2 3 2 ∷ reads (4 ∷ 1 ∷ 3 ∷ 2 ∷ 2 ∷ 2 ∷ 1 ∷ 2 ∷ 0 ∷ 1 ∷ []) ∷ []
 unfolding promising m backCalls
 back-told = refl
 
-unfoldable back : Search eightSteps (exchanged i) m
+unfoldable back : Search eightSteps (exchanged gap) m
 unfolding promising m backCalls
 back = record {
   work = workFor (box 0 0 5 3);
-  store = storeFor (exchanged i) m;
+  store = storeFor (exchanged gap) m;
   accepted = refl;
   calls = backCalls;
   faithful = ((λ e. (refl, refl)), ((λ e. absurd (Option·none-ne-some (refusal 11) (sym e))), ((λ e. (refl, refl)), ((λ e. (refl, refl)), tt))));
