@@ -1,4 +1,7 @@
-//! The inputs. Each is made anew by fixed rules; nothing is drawn by chance but the terrain of `rough`, whose seed is fixed.
+//! The inputs. Each is made anew by fixed rules; nothing is drawn by chance but the terrain of `rough` and the stones of `winding`, whose seeds
+//! are fixed.
+
+use std::ops::Range;
 
 use judge::{Baselines, Bounds, Case, List, Placement, Rect, Snapshot};
 
@@ -100,14 +103,19 @@ pub fn rough(size: Size) -> Case {
         .expect("a seed whose ground joins the ends")
 }
 
-fn strewn(case: &Case, (width, height): Size, seed: u64) -> Case {
+/// Numbers below a limit, drawn by chance.
+fn chance(seed: u64) -> impl FnMut(u64) -> u64 {
     let mut state = seed;
-    let mut below = |limit: u64| {
+    move |limit| {
         state = state
             .wrapping_mul(6_364_136_223_846_793_005)
             .wrapping_add(1_442_695_040_888_963_407);
         (state >> 33) % limit
-    };
+    }
+}
+
+fn strewn(case: &Case, (width, height): Size, seed: u64) -> Case {
+    let mut below = chance(seed);
     let mut case = case.clone();
     for cell in &mut case.cells {
         *cell = u8::from(below(50) != 0);
@@ -172,6 +180,144 @@ pub fn crowded(size: Size, states: u32) -> Case {
         states,
         placements: (0..MANY).map(placement).collect(),
         ..open(size)
+    }
+}
+
+/// A corridor two rows high that winds down the window, run by run, from pixel 0 0. Under each run lies a bank, with an opening at its right or
+/// left end in turn; the last has none.
+struct Winding {
+    size: Size,
+    /// The rows of a bank.
+    bank: i32,
+    /// A building's side.
+    side: i32,
+    runs: i32,
+}
+
+impl Winding {
+    const RUN: i32 = 2;
+
+    fn new(size: Size) -> Self {
+        let (bank, side) = if size == LARGE { (62, 32) } else { (4, 4) };
+        let runs = size.1 / (Self::RUN + bank);
+        Self {
+            size,
+            bank,
+            side,
+            runs,
+        }
+    }
+
+    /// The first row of a bank.
+    fn top(&self, run: i32) -> i32 {
+        run * (Self::RUN + self.bank) + Self::RUN
+    }
+
+    fn shut(&self, run: i32) -> Rect {
+        let ((width, height), top) = (self.size, self.top(run));
+        if run + 1 == self.runs {
+            Rect::new(0, top, width, height)
+        } else if run % 2 == 0 {
+            Rect::new(0, top, width - Self::RUN, top + self.bank)
+        } else {
+            Rect::new(Self::RUN, top, width, top + self.bank)
+        }
+    }
+
+    /// Stones three to ten columns apart, each a pixel in one of a run's two rows, but none beside a placement that reaches into a run: a route
+    /// past them changes its row at places that follow no rule.
+    fn stones(&self) -> Vec<Rect> {
+        let mut below = chance(1);
+        let mut stones = Vec::new();
+        for run in 0..self.runs {
+            let mut x = 2 * Self::RUN;
+            while x < self.size.0 - 2 * Self::RUN {
+                let y = self.top(run) - 1 - below(2) as i32;
+                if !self.kept_clear().contains(&x) {
+                    stones.push(Rect::new(x, y, x + 1, y + 1));
+                }
+                x += 3 + below(8) as i32;
+            }
+        }
+        stones
+    }
+
+    /// Placement i of `count` that stand on the banks and leave the corridor alone.
+    fn on_bank(&self, i: i32, count: i32) -> (i32, i32) {
+        let room = self.size.0 - 2 * Self::RUN - self.side;
+        let x = Self::RUN + i / self.runs * room / (count / self.runs);
+        (x, self.top(i % self.runs) + (self.bank - self.side) / 2)
+    }
+
+    /// Placement i of `count` that reach one row into a run, from below or from above, and leave the other row open.
+    fn in_run(&self, i: i32, count: i32) -> (i32, i32) {
+        let x = self.size.0 / 2 + i % 5 * 2 * self.side;
+        let top = self.top(i * (self.runs - 1) / count);
+        if i % 2 == 0 {
+            (x, top - 1)
+        } else {
+            (x, top + self.bank + 1 - self.side)
+        }
+    }
+
+    /// The columns in which placements reach into runs, and one more on each side, since a diagonal step needs it.
+    fn kept_clear(&self) -> Range<i32> {
+        let middle = self.size.0 / 2;
+        middle - 1..middle + 9 * self.side + 1
+    }
+}
+
+#[derive(Clone, Copy)]
+pub enum Corridor {
+    Clear,
+    Stones,
+}
+
+/// A winding corridor and 6,144 placements: twelve reach into it, the others stand on its banks.
+pub fn winding(size: Size, states: u32, inside: Corridor) -> Case {
+    const BESIDE: i32 = 6_132;
+    const REACHING: i32 = 12;
+    let corridor = Winding::new(size);
+    let beside = (0..BESIDE).map(|i| corridor.on_bank(i, BESIDE));
+    let reaching = (0..REACHING).map(|i| corridor.in_run(i, REACHING));
+    let place = |(x, y)| Placement::plain(Rect::new(x, y, x + corridor.side, y + corridor.side));
+    let banks = (0..corridor.runs).map(|run| corridor.shut(run));
+    let stones = match inside {
+        Corridor::Clear => Vec::new(),
+        Corridor::Stones => corridor.stones(),
+    };
+    let last = if corridor.runs % 2 == 0 {
+        0
+    } else {
+        size.0 - 1
+    };
+    Case {
+        start: (0, 0),
+        end: (last as u32, corridor.top(corridor.runs - 1) as u32 - 1),
+        obstacles: banks.chain(stones).collect(),
+        states,
+        placements: beside.chain(reaching).map(place).collect(),
+        ..open(size)
+    }
+}
+
+/// The same with columns and rows exchanged, for open cells and a mover alike on all sides.
+pub fn turned(case: Case) -> Case {
+    let swap = |(x, y): (u32, u32)| (y, x);
+    let turn = |r: Rect| Rect::new(r.top, r.left, r.bottom, r.right);
+    let place = |p: Placement| Placement {
+        footprint: turn(p.footprint),
+        collision: turn(p.collision),
+        ..p
+    };
+    Case {
+        map: swap(case.map),
+        window: turn(case.window),
+        start: swap(case.start),
+        end: swap(case.end),
+        obstacles: case.obstacles.into_iter().map(turn).collect(),
+        placements: case.placements.into_iter().map(place).collect(),
+        ..case
     }
 }
 

@@ -11,7 +11,7 @@ mod original;
 mod port;
 mod side;
 
-use inputs::{LARGE, MIDDLE, SMALL, Size};
+use inputs::{Corridor, LARGE, MIDDLE, SMALL, Size};
 use judge::{Baselines, Case};
 use measure::{Line, Measured, Work, measure, timed};
 use original::Original;
@@ -139,6 +139,25 @@ fn at_every_size(size: Size) -> Vec<Line> {
     lines
 }
 
+/// Long routes and many placements that do not touch them.
+fn winding(size: Size) -> Vec<Line> {
+    const FEW: u32 = 3;
+    let mut lines = Vec::new();
+    for (corridor, inside) in [
+        ("winding corridor", Corridor::Clear),
+        ("winding corridor with stones", Corridor::Stones),
+    ] {
+        let across = move |size| inputs::winding(size, FEW, inside);
+        let down =
+            move |(width, height)| inputs::turned(inputs::winding((height, width), FEW, inside));
+        let words = |runs: &str| format!("{corridor}, runs {runs}, {FEW} evaluations");
+        let work = || steps(FEW, FEW);
+        lines.push(line(words("across"), size, across, work(), Buffers::AsLeft));
+        lines.push(line(words("down"), size, down, work(), Buffers::AsLeft));
+    }
+    lines
+}
+
 fn many_on_small() -> Vec<Line> {
     let mut lines = Vec::new();
     for (words, many) in [("10,000", 10_000), ("100,000", 100_000)] {
@@ -205,6 +224,7 @@ fn main() {
     let lines = [SMALL, MIDDLE, LARGE]
         .into_iter()
         .flat_map(at_every_size)
+        .chain([MIDDLE, LARGE].into_iter().flat_map(winding))
         .chain(many_on_small());
     if has("--cpu") {
         clock::take_processor_time();

@@ -1,3 +1,5 @@
 pub mod Touching
+pub mod Spots
 pub mod Along
 pub mod Joining
+pub mod Rows

@@ -1,13 +1,14 @@
 -- The touch test by columns and rows. The edges of a window lead one step away, so a step's side centres are found where its ends differ in both
--- column and row: in the column of one end and the row of the other. A span holds what the rectangle covers.
+-- column and row: in the column of one end and the row of the other. A span holds what the rectangle covers, and nothing of a step whose rows, or whose
+-- columns, both miss it.
 use Prim.Native.Nat.{ℕ, _+_, _*_, _/_, _%_, _<_}
 use mathlib.Core.Path.{_≡_, refl, sym, ap, ap₂, _∙_, subst}
-use mathlib.Core.Bool.{Bool, true, false, not, _&&_, _||_, or-assoc, or-false}
+use mathlib.Core.Bool.{Bool, true, false, not, _&&_, _||_, and-false, or-assoc, or-false}
 use mathlib.Core.List.{List, [], _∷_, List·Memᴰ, List·Memᴰ·head, List·Memᴰ·tail}
 use native.Mathlib.Nat.{mul-comm}
 use native.Mathlib.Omega.{arith}
 use lib.Arith.{digits-lt, digits-div, digits-mod}
-use lib.Dec.{eqb}
+use lib.Dec.{eqb, leb, ltb}
 use lib.IntN.{ℤ, pos, _+ℤ_}
 use borrow.Author.Tests.{eqb-true, eqb-false}
 use Rattle.base_laws.specs.Ints.{up, dn}
@@ -29,7 +30,7 @@ use Rattle.rule_routes.proofs.StepLaws.{eqZ-true}
 use Rattle.rule_routes.proofs.Neighbours.{leads-out}
 use Rattle.rule_routes.proofs.Leans.{sides-of-edge}
 use Rattle.rule_routes.proofs.WindowLaws.{inside-is, centre-column, centre-row, ByStep, window-out, window-one-edge}
-use Rattle.set_extend.specs.Touch.{Linked, Trail, touched, stepIn, grazes}
+use Rattle.set_extend.specs.Touch.{Linked, Trail, touched, stepIn, grazes, BothOff}
 
 -- ---- tests
 neither-nor : (p q : Bool) → not (p || q) ≡ (not p && not q)
@@ -134,3 +135,17 @@ module _ (collision : Rect) (m : Bounds) (w : Rect) (s : Span) (some : nonempty 
   pub grazes-touched : (steps : List Step) (r : List ℕ) → Trail w steps r → grazes s (width w) r ≡ touched collision m w steps r
   unfolding touched
   grazes-touched steps r t = sym (grazes-leans steps (t .once) r (t .small) (t .linked))
+
+-- ---- steps that miss a span
+module _ (s : Span) (x y x′ y′ : ℕ) where
+  abbrev diagonal : Bool
+  diagonal = not (eqb x x′) && not (eqb y y′)
+
+  pub rows-off : BothOff (s .top) (s .bottom) y y′ → stepIn s x y x′ y′ ≡ false
+  unfolding stepIn inSpan
+  rows-off h =
+      rw (h .first, h .second, and-false (leb (s .left) x && ltb x (s .right)), and-false (leb (s .left) x′ && ltb x′ (s .right))) (and-false diagonal)
+
+  pub columns-off : BothOff (s .left) (s .right) x x′ → stepIn s x y x′ y′ ≡ false
+  unfolding stepIn inSpan
+  columns-off h = rw (h .first, h .second) (and-false diagonal)

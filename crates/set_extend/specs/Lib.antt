@@ -1,2 +1,3 @@
+pub mod Spots
 pub mod Touch
 pub mod Join

@@ -3,7 +3,7 @@ use Prim.Native.Nat.{ℕ, _/_, _%_, _≤_, _<_}
 use mathlib.Core.Path.{_≡_}
 use mathlib.Core.Bool.{Bool, true, false, not, _&&_, _||_}
 use mathlib.Core.List.{List, [], _∷_, List·Memᴰ}
-use lib.Dec.{eqb}
+use lib.Dec.{eqb, leb, ltb}
 use lib.ListN.{length}
 use Rattle.base_laws.specs.Lists.{anyOf}
 use Rattle.base_model.specs.declared.Rect.{Rect}
@@ -46,3 +46,8 @@ unfoldable pub grazes : Span → ℕ → List ℕ → Bool
 grazes s width [] = false
 grazes s width (u ∷ []) = inSpan s (u % width) (u / width)
 grazes s width (u ∷ v ∷ r) = stepIn s (u % width) (u / width) (v % width) (v / width) || grazes s width (v ∷ r)
+
+-- neither a nor b is one of the numbers from low up to high
+pub record BothOff (low high a b : ℕ) : Type 0 where
+  pub first : (leb low a && ltb a high) ≡ false
+  pub second : (leb low b && ltb b high) ≡ false

@@ -9,14 +9,85 @@ use set_places::count_in_group;
 use set_places::footprint_at;
 use set_places::group_at;
 ghost use mathlib.Core.Path.{_≡_};
+ghost use mathlib.Core.Bool.{true};
 ghost use mathlib.Core.List.{List};
-ghost use Prim.Native.Nat.{_<_};
+ghost use Prim.Native.Nat.{_≤_, _<_};
 ghost use lib.ListN.{length, take};
 ghost use Rattle.ground_rects.specs.Spans.{inSpan};
 ghost use Rattle.rule_routes.specs.Edges.{Step};
 ghost use Rattle.rule_layouts.specs.Flat.{placesIn};
-ghost use Rattle.set_extend.specs.Touch.{Trail, Looks, touched, stepIn};
+ghost use Rattle.set_extend.specs.Spots.{spotOf, RowStarts};
+ghost use Rattle.set_extend.specs.Touch.{Trail, Looks, touched, stepIn, BothOff};
 ghost use Rattle.set_extend.specs.Join.{Rowed, freeSlot, extending, ListWritten};
+
+// Where a centre stands: its column, its row, and the centre that its row starts with.
+struct Spot {
+    x: usize,
+    y: usize,
+    start: usize,
+}
+
+// Where centre v stands, by dividing.
+fn spot_of(width: usize, v: usize) -> Spot
+    requires { ⌜ 0 < width ⌝ }
+    ensures { λ r. ⌜ r ≡ spotOf width v ⌝ }
+{
+    let x = v % width;
+    Spot {
+        x: x,
+        y: v / width,
+        start: v - x,
+    }
+}
+
+// Where centre v stands, found from a row below its own, row by row upwards.
+fn spot_above(from: Spot, width: usize, v: usize) -> Spot
+    requires { ⌜ RowStarts width from ⌝ }
+    requires { ⌜ v < from .start ⌝ }
+    ensures { λ r. ⌜ r ≡ spotOf width v ⌝ }
+{
+    let mut spot = from;
+    while v < spot.start {
+        spot.y -= 1;
+        spot.start -= width;
+    }
+    let column = v - spot.start;
+    Spot {
+        x: column,
+        y: spot.y,
+        start: spot.start,
+    }
+}
+
+// Where centre v stands, found from its own row or one above it, row by row downwards.
+fn spot_below(from: Spot, width: usize, v: usize) -> Spot
+    requires { ⌜ RowStarts width from ⌝ }
+    requires { ⌜ from .start ≤ v ⌝ }
+    ensures { λ r. ⌜ r ≡ spotOf width v ⌝ }
+{
+    let mut x = v - from.start;
+    let mut y = from.y;
+    while width <= x {
+        x -= width;
+        y += 1;
+    }
+    Spot {
+        x: x,
+        y: y,
+        start: v - x,
+    }
+}
+
+// Where centre v stands, found without dividing from where another stands.
+fn next_spot(from: Spot, width: usize, v: usize) -> Spot
+    requires { ⌜ RowStarts width from ⌝ }
+    ensures { λ r. ⌜ r ≡ spotOf width v ⌝ }
+{
+    if v < from.start {
+        return spot_above(from, width, v);
+    }
+    spot_below(from, width, v)
+}
 
 // Whether the span holds column x of row y.
 fn in_span(span: Span, x: usize, y: usize) -> bool
@@ -53,6 +124,33 @@ fn step_in(span: Span, x: usize, y: usize, nx: usize, ny: usize) -> bool
     in_span(span, x, ny)
 }
 
+// Whether both numbers lie before `low`, or both at `high` or after it. A yes means that neither is one of those between; a no means
+// nothing.
+fn both_off(low: usize, high: usize, a: usize, b: usize) -> bool
+    ensures { λ r. ⌜ (r ≡ true → BothOff low high a b) ⌝ }
+{
+    if a < low {
+        return b < low;
+    }
+    if a < high {
+        return false;
+    }
+    high <= b
+}
+
+// The same as `step_in`, told at once where both ends of the step lie above the span, below it, left of it or right of it.
+fn quick_step_in(span: Span, x: usize, y: usize, nx: usize, ny: usize) -> bool
+    ensures { λ r. ⌜ r ≡ stepIn span x y nx ny ⌝ }
+{
+    if both_off(span.top, span.bottom, y, ny) {
+        return false;
+    }
+    if both_off(span.left, span.right, x, nx) {
+        return false;
+    }
+    step_in(span, x, y, nx, ny)
+}
+
 // Whether the collision rectangle covers one of the first `count` points of the route, or a side centre of a diagonal step between them.
 pub fn candidate_touches_witness(
     collision: Rect,
@@ -70,22 +168,17 @@ pub fn candidate_touches_witness(
     }
     let span = ground_rects::clip(collision, window, mover);
     let width = ground_rects::width(window);
-    let first = index(route[0]);
-    let mut x = first % width;
-    let mut y = first / width;
+    let mut spot = spot_of(width, index(route[0]));
     let mut i = 0;
     while i + 1 < count {
         i += 1;
-        let next = index(route[i]);
-        let nx = next % width;
-        let ny = next / width;
-        if step_in(span, x, y, nx, ny) {
+        let next = next_spot(spot, width, index(route[i]));
+        if quick_step_in(span, spot.x, spot.y, next.x, next.y) {
             return true;
         }
-        x = nx;
-        y = ny;
+        spot = next;
     }
-    in_span(span, x, y)
+    in_span(span, spot.x, spot.y)
 }
 
 // Whether the group of placement i has a free slot beside the members.
