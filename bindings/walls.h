@@ -1,9 +1,12 @@
-/* The wall search of a map planner, as proved C functions: prepare, begin, step, read, judge.
+/* The wall search of a map planner, as proved C functions: prepare, cover, lift, begin, step, read, judge.
  *
  * Build the archive with `rt staticlib walls_c`, and link target/staticlib/libwalls_c.a. bindings/c/example.c is a whole program.
  *
  * A planner prepares the mover to keep out, and the mover to let pass if there is one; begins a search; steps it, in any portions,
  * until its reason is no longer Running; and reads the walls from the layouts area. Judging tells what a selection comes to.
+ *
+ * An editor that drags a building prepares the movers without it and covers it; then lifts it and covers it elsewhere, on each mover's
+ * baseline, and begins a new search. What this costs grows with the building, not with the window.
  *
  * Rules for every call
  *
@@ -15,7 +18,8 @@
  *  - An area may be longer than needed. What lies past the needed length is never written.
  *  - A search lives in its record and its four store areas, which belong to the caller. Between the calls of one search, its
  *    inputs (QUERY, LIMITS, PLACES, BASES), its record and its store must stay as they were. What is promised of a search is
- *    promised under this condition; a record that does not fit its inputs and its store is refused with 16.
+ *    promised under this condition; a record that does not fit its inputs and its store is refused with 16. Cover and lift
+ *    alter a baseline: they belong between searches, not between the calls of one.
  *
  * Parameter blocks, in the order in which the functions take them
  *
@@ -33,8 +37,9 @@
  *          edges: 8 a placement: left, top, right, bottom of its footprint, which lies inside the window, then of its collision
  *          rectangle, which keeps movers off. At most 6,144 placements; they are told apart by their index alone.
  *          A part left over in numbers or edges counts as one more placement with empty rectangles.
- *  BASES   block_base, allow_base: the baselines that prepare made for the two movers. allow_base is not looked at where there is no
- *          mover to let pass.
+ *  BASES   block_base, allow_base: the baselines of the two movers, as prepare made them or cover and lift left them. A baseline holds
+ *          a count for each centre, a byte; the centre is blocked where it is not zero. Any counts are taken, and the answer is the
+ *          same as if every count that is not zero were 1. allow_base is not looked at where there is no mover to let pass.
  *  WORK    counts, map, queue, predecessors, route: working areas, zero after each accepted call.
  *  STORE   lists, visited, layouts, points: what a search holds beside its record. Row k of layouts is HITROVZEN_ROW numbers: how
  *          many members layout k has, then their indexes, ascending, in six places. The first `record[HITROVZEN_LAYOUTS]` rows
@@ -68,11 +73,13 @@ enum hitrovzen_answer {
     HITROVZEN_GROUPS_INVALID = 10,       /* There are more than 6 groups, a group has not 1 to 6 slots, or there are more than 6 slots together. */
     HITROVZEN_STATE_LIMIT_INVALID = 11,  /* The state limit is not 1 to 100,000. */
     HITROVZEN_RESULT_LIMIT_INVALID = 12, /* The result limit is not 1 to 32. */
-    HITROVZEN_BASELINE_INVALID = 13,     /* A baseline has a byte above 1. */
+    /* 13 is reserved: no call gives it. */
     HITROVZEN_TOO_MANY_PLACEMENTS = 14,  /* There are more than 6,144 placements. */
-    HITROVZEN_PLACEMENT_INVALID = 15,    /* A placement has a spec index above 5, no such group, an empty rectangle or a footprint not wholly inside the window. */
+    HITROVZEN_PLACEMENT_INVALID = 15,    /* A placement has a spec index above 5, no such group, an empty rectangle or a footprint not wholly inside the window; or the rectangle to cover or lift is empty. */
     HITROVZEN_RECORD_INVALID = 16,       /* The record and its areas are not those of a search over these inputs. */
-    HITROVZEN_SELECTION_INVALID = 17     /* No layout has this number, or the selection does not ascend strictly, names no placement or has more than 6. */
+    HITROVZEN_SELECTION_INVALID = 17,    /* No layout has this number, or the selection does not ascend strictly, names no placement or has more than 6. */
+    /* 18 is an answer of the program that reads drive sheets. 19 is reserved. */
+    HITROVZEN_COUNT_OUT_OF_RANGE = 20    /* A cover would take a count above 255, or a lift one below zero. */
 };
 
 /* Why a search stands where it stands: record[HITROVZEN_REASON]. */
@@ -171,12 +178,41 @@ uint32_t hitrovzen_prepare(
     uint32_t *predecessors, size_t predecessors_len,
     uint32_t *route, size_t route_len);
 
+/* Covers a mover's baseline with a building: adds 1 to the count of every centre off which the rectangle keeps the mover, that is, of
+ * each centre x, y of the window with rect_left - mover_right <= x < rect_right + mover_left and
+ * rect_top - mover_bottom <= y < rect_bottom + mover_top. Nothing else is written.
+ *
+ * The window is that of QUERY; mover is its block or its allow, the one that the baseline was prepared for. rect: what keeps movers
+ * off, as the collision rectangle of a placement does. It may lie anywhere; one that reaches no centre of the window is accepted and
+ * changes nothing. baseline: as long as the window has centres.
+ *
+ * Refused, in this order, with 2 (here a map of 8,192 by 8,192 pixels stands for the map), 4, 6, 15 where the rectangle is empty or
+ * inverted, and 20 where one of these counts is 255. A refusal writes nothing. */
+uint32_t hitrovzen_cover(
+    int32_t window_left, int32_t window_top, int32_t window_right, int32_t window_bottom,
+    uint32_t mover_left, uint32_t mover_top, uint32_t mover_right, uint32_t mover_bottom,
+    int32_t rect_left, int32_t rect_top, int32_t rect_right, int32_t rect_bottom,
+    uint8_t *baseline, size_t baseline_len);
+
+/* Lifts a building off a mover's baseline: takes 1 from the counts to which hitrovzen_cover adds 1. Nothing else is written.
+ *
+ * A cover and then its lift leave every count as it was, and so do several covers lifted in any order; each of these lifts is
+ * accepted. A count does not tell what raised it: a rectangle that was never covered is lifted too where none of these counts is 0,
+ * and centres that prepare marked may come open by it.
+ *
+ * Refused as hitrovzen_cover is, but with 20 where one of these counts is 0. A refusal writes nothing. */
+uint32_t hitrovzen_lift(
+    int32_t window_left, int32_t window_top, int32_t window_right, int32_t window_bottom,
+    uint32_t mover_left, uint32_t mover_top, uint32_t mover_right, uint32_t mover_bottom,
+    int32_t rect_left, int32_t rect_top, int32_t rect_right, int32_t rect_bottom,
+    uint8_t *baseline, size_t baseline_len);
+
 /* Begins a search: fills the record and clears the store. Nothing is evaluated yet.
  *
  * record: at least HITROVZEN_RECORD numbers. index: the index of the first placement that is not taken where the answer is 15,
  * otherwise 0; so it is in every function below.
  *
- * Refused, in this order, with 10, 11, 12, 2 (here a map of 8,192 by 8,192 pixels stands for the map), 3, 4, 6, 13; 7, 8, 9 for the
+ * Refused, in this order, with 10, 11, 12, 2 (here a map of 8,192 by 8,192 pixels stands for the map), 3, 4, 6; 7, 8, 9 for the
  * blocked mover, then for the allowed one; 14, 15. A refusal leaves record and STORE as they were; 7, 8, 9, 14 and 15 leave WORK zero,
  * the others leave it as it was. */
 uint32_t hitrovzen_begin(
@@ -205,7 +241,7 @@ uint32_t hitrovzen_begin(
 /* Evaluates n sets more, or stops: Exhausted, StateLimit or ResultLimit. A search that has stopped stays as it is. A step by a and
  * then one by b leave what a step by a + b leaves.
  *
- * Refused, in this order, with 10, 11, 12, 2, 3, 4, 6, 13, 14, 15, 16. A refusal writes nothing but index. */
+ * Refused, in this order, with 10, 11, 12, 2, 3, 4, 6, 14, 15, 16. A refusal writes nothing but index. */
 uint32_t hitrovzen_step(
     int32_t window_left, int32_t window_top, int32_t window_right, int32_t window_bottom,
     uint32_t start_x, uint32_t start_y, uint32_t end_x, uint32_t end_y,
@@ -233,7 +269,7 @@ uint32_t hitrovzen_step(
 /* Tells where the allowed mover's route past layout k stands: point i of it, for i from first to first + count - 1, is
  * points[2 * i], points[2 * i + 1]. count is 0 where there is no mover to let pass.
  *
- * Refused, in this order, with 10, 11, 12, 2, 3, 4, 6, 13, 14, 15, 16, and 17 where no layout has the number k; first and count are
+ * Refused, in this order, with 10, 11, 12, 2, 3, 4, 6, 14, 15, 16, and 17 where no layout has the number k; first and count are
  * then 0. */
 uint32_t hitrovzen_read(
     int32_t window_left, int32_t window_top, int32_t window_right, int32_t window_bottom,
@@ -257,7 +293,7 @@ uint32_t hitrovzen_read(
 /* Tells what a selection of placements comes to (enum hitrovzen_verdict), and the ground left: how many centres are open to the
  * blocked mover. selection: at most 6 indexes of placements, strictly ascending.
  *
- * Refused, in this order, with 10, 2, 3, 4, 6, 13, 14, 15, and 17 for what is no selection; verdict and ground are then 0. A refusal
+ * Refused, in this order, with 10, 2, 3, 4, 6, 14, 15, and 17 for what is no selection; verdict and ground are then 0. A refusal
  * leaves WORK as it was. */
 uint32_t hitrovzen_judge(
     int32_t window_left, int32_t window_top, int32_t window_right, int32_t window_bottom,

@@ -1,5 +1,6 @@
 /* A gap of six pixels in which posts may stand. The planner looks for the sets of posts that keep a mover of three pixels out and
- * let one of a single pixel pass, and prints each with the way past it.
+ * let one of a single pixel pass, and prints each with the way past it. Then a rock is put down in the gap, dragged to its other end
+ * and taken away, and the walls are listed each time.
  *
  *     cc -std=c11 -I bindings bindings/c/example.c target/staticlib/libwalls_c.a -o example && ./example
  */
@@ -37,6 +38,17 @@ static const int32_t edges[] = {
     3, 3, 4, 6, 3, 3, 4, 6,
 };
 
+/* A rock at the upper end of the gap, and at the lower end. */
+#define UPPER 3, 0, 4, 1
+#define LOWER 3, 5, 4, 6
+
+static size_t centres, counts_len, lists_len, visited_len, layouts_len, points_len;
+static uint8_t *block_base, *allow_base, *map;
+static int32_t *counts;
+static uint32_t *queue, *predecessors, *route, *points;
+static uint16_t *lists, *visited, *layouts;
+static uint32_t record[HITROVZEN_RECORD], index_;
+
 static void *zeros(size_t length, size_t size) {
     void *area = calloc(length, size);
     if (area == NULL) {
@@ -53,50 +65,97 @@ static void accepted(const char *call, uint32_t answer) {
     exit(1);
 }
 
-int main(void) {
-    size_t centres = hitrovzen_centres(WINDOW);
-    size_t counts_len = hitrovzen_counts(WINDOW);
-    size_t lists_len = hitrovzen_lists(4);
-    size_t visited_len = hitrovzen_visited(STATES);
-    size_t layouts_len = hitrovzen_layouts(RESULTS);
-    size_t points_len = hitrovzen_points(RESULTS, centres);
+static void lend(void) {
+    centres = hitrovzen_centres(WINDOW);
+    counts_len = hitrovzen_counts(WINDOW);
+    lists_len = hitrovzen_lists(4);
+    visited_len = hitrovzen_visited(STATES);
+    layouts_len = hitrovzen_layouts(RESULTS);
+    points_len = hitrovzen_points(RESULTS, centres);
 
-    uint8_t *block_base = zeros(centres, sizeof *block_base), *allow_base = zeros(centres, sizeof *allow_base);
-    int32_t *counts = zeros(counts_len, sizeof *counts);
-    uint8_t *map = zeros(centres, sizeof *map);
-    uint32_t *queue = zeros(centres, sizeof *queue), *predecessors = zeros(centres, sizeof *predecessors);
-    uint32_t *route = zeros(centres, sizeof *route);
-    uint16_t *lists = zeros(lists_len, sizeof *lists), *visited = zeros(visited_len, sizeof *visited);
-    uint16_t *layouts = zeros(layouts_len, sizeof *layouts);
-    uint32_t *points = zeros(points_len, sizeof *points);
-    uint32_t record[HITROVZEN_RECORD] = {0};
-    uint32_t index;
+    block_base = zeros(centres, sizeof *block_base);
+    allow_base = zeros(centres, sizeof *allow_base);
+    counts = zeros(counts_len, sizeof *counts);
+    map = zeros(centres, sizeof *map);
+    queue = zeros(centres, sizeof *queue);
+    predecessors = zeros(centres, sizeof *predecessors);
+    route = zeros(centres, sizeof *route);
+    lists = zeros(lists_len, sizeof *lists);
+    visited = zeros(visited_len, sizeof *visited);
+    layouts = zeros(layouts_len, sizeof *layouts);
+    points = zeros(points_len, sizeof *points);
+}
 
-    accepted("prepare block", hitrovzen_prepare(1, 1, HITROVZEN_ARRAY(cells), obstacles, 0, WINDOW, ENDS, BLOCK, block_base, centres, WORK));
-    accepted("prepare allow", hitrovzen_prepare(1, 1, HITROVZEN_ARRAY(cells), obstacles, 0, WINDOW, ENDS, ALLOW, allow_base, centres, WORK));
-    accepted("begin", hitrovzen_begin(QUERY, LIMITS, PLACES, BASES, HITROVZEN_ARRAY(record), WORK, STORE, &index));
-    while (record[HITROVZEN_REASON] == HITROVZEN_RUNNING)
-        accepted("step", hitrovzen_step(QUERY, LIMITS, PLACES, BASES, HITROVZEN_ARRAY(record), 2, WORK, STORE, &index));
-
-    printf("reason %" PRIu32 ", %" PRIu32 " sets evaluated\n", record[HITROVZEN_REASON], record[HITROVZEN_EVALUATIONS]);
-    for (uint32_t k = 0; k < record[HITROVZEN_LAYOUTS]; k++) {
-        const uint16_t *row = layouts + HITROVZEN_ROW * k;
-        printf("wall %" PRIu32 ": posts", k);
-        for (uint16_t i = 1; i <= row[0]; i++) printf(" %u", (unsigned)row[i]);
-
-        uint32_t first, count;
-        accepted("read", hitrovzen_read(QUERY, LIMITS, PLACES, BASES, HITROVZEN_ARRAY(record), k, STORE, &index, &first, &count));
-        printf("; the way past:");
-        for (uint32_t i = first; i < first + count; i++) printf(" (%" PRIu32 " %" PRIu32 ")", points[2 * i], points[2 * i + 1]);
-        printf("\n");
-    }
-
-    uint16_t selection[] = {0};
-    uint32_t verdict, ground;
-    accepted("judge", hitrovzen_judge(QUERY, PLACES, BASES, HITROVZEN_ARRAY(selection), WORK, &index, &verdict, &ground));
-    printf("post 0 alone: %s, ground left %" PRIu32 "\n", verdict == HITROVZEN_WALL ? "a wall" : "no wall", ground);
-
+static void give_back(void) {
     void *areas[] = {block_base, allow_base, counts, map, queue, predecessors, route, lists, visited, layouts, points};
     for (size_t i = 0; i < sizeof areas / sizeof *areas; i++) free(areas[i]);
+}
+
+static void prepare(void) {
+    accepted("prepare block", hitrovzen_prepare(1, 1, HITROVZEN_ARRAY(cells), obstacles, 0, WINDOW, ENDS, BLOCK, block_base, centres, WORK));
+    accepted("prepare allow", hitrovzen_prepare(1, 1, HITROVZEN_ARRAY(cells), obstacles, 0, WINDOW, ENDS, ALLOW, allow_base, centres, WORK));
+}
+
+static void print_wall(uint32_t k) {
+    const uint16_t *row = layouts + HITROVZEN_ROW * k;
+    printf("wall %" PRIu32 ": posts", k);
+    for (uint16_t i = 1; i <= row[0]; i++) printf(" %u", (unsigned)row[i]);
+
+    uint32_t first, count;
+    accepted("read", hitrovzen_read(QUERY, LIMITS, PLACES, BASES, HITROVZEN_ARRAY(record), k, STORE, &index_, &first, &count));
+    printf("; the way past:");
+    for (uint32_t i = first; i < first + count; i++) printf(" (%" PRIu32 " %" PRIu32 ")", points[2 * i], points[2 * i + 1]);
+    printf("\n");
+}
+
+static void print_walls(void) {
+    accepted("begin", hitrovzen_begin(QUERY, LIMITS, PLACES, BASES, HITROVZEN_ARRAY(record), WORK, STORE, &index_));
+    while (record[HITROVZEN_REASON] == HITROVZEN_RUNNING)
+        accepted("step", hitrovzen_step(QUERY, LIMITS, PLACES, BASES, HITROVZEN_ARRAY(record), 2, WORK, STORE, &index_));
+
+    printf("reason %" PRIu32 ", %" PRIu32 " sets evaluated\n", record[HITROVZEN_REASON], record[HITROVZEN_EVALUATIONS]);
+    for (uint32_t k = 0; k < record[HITROVZEN_LAYOUTS]; k++) print_wall(k);
+}
+
+static void judge(void) {
+    uint16_t selection[] = {0};
+    uint32_t verdict, ground;
+    accepted("judge", hitrovzen_judge(QUERY, PLACES, BASES, HITROVZEN_ARRAY(selection), WORK, &index_, &verdict, &ground));
+    printf("post 0 alone: %s, ground left %" PRIu32 "\n", verdict == HITROVZEN_WALL ? "a wall" : "no wall", ground);
+}
+
+static void cover(int32_t left, int32_t top, int32_t right, int32_t bottom) {
+    accepted("cover block", hitrovzen_cover(WINDOW, BLOCK, left, top, right, bottom, block_base, centres));
+    accepted("cover allow", hitrovzen_cover(WINDOW, ALLOW, left, top, right, bottom, allow_base, centres));
+}
+
+static void lift(int32_t left, int32_t top, int32_t right, int32_t bottom) {
+    accepted("lift block", hitrovzen_lift(WINDOW, BLOCK, left, top, right, bottom, block_base, centres));
+    accepted("lift allow", hitrovzen_lift(WINDOW, ALLOW, left, top, right, bottom, allow_base, centres));
+}
+
+/* The baselines change between searches alone: each search has stopped, and its walls are read, before the next change. */
+static void drag(void) {
+    cover(UPPER);
+    printf("a rock at the upper end: ");
+    print_walls();
+
+    lift(UPPER);
+    cover(LOWER);
+    printf("the rock at the lower end: ");
+    print_walls();
+
+    lift(LOWER);
+    printf("no rock: ");
+    print_walls();
+}
+
+int main(void) {
+    lend();
+    prepare();
+    print_walls();
+    judge();
+    drag();
+    give_back();
     return 0;
 }

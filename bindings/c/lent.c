@@ -34,7 +34,7 @@ static uint32_t record[HITROVZEN_RECORD + SPARE], points[2 * RESULTS * CENTRES +
 static uint16_t lists[6 * 4 + SPARE], visited[7 * STATES + SPARE], layouts[7 * RESULTS + SPARE];
 
 enum { BLOCK_BASE, ALLOW_BASE, RECORD, COUNTS, MAP, QUEUE, PREDECESSORS, ROUTE, LISTS, VISITED, LAYOUTS, POINTS, AREAS };
-enum { PREPARE = 1, BEGIN = 2, STEP = 4, READ = 8, JUDGE = 16 };
+enum { PREPARE = 1, BEGIN = 2, STEP = 4, READ = 8, JUDGE = 16, COVER = 32, LIFT = 64 };
 
 /* Which calls take an area, and whether it is a working area. */
 static const struct {
@@ -43,7 +43,8 @@ static const struct {
     size_t element, length;
     int taken, working;
 } areas[AREAS] = {
-    {"block_base", block_base, sizeof *block_base, sizeof block_base / sizeof *block_base, PREPARE | BEGIN | STEP | READ | JUDGE, 0},
+    {"block_base", block_base, sizeof *block_base, sizeof block_base / sizeof *block_base,
+     PREPARE | BEGIN | STEP | READ | JUDGE | COVER | LIFT, 0},
     {"allow_base", allow_base, sizeof *allow_base, sizeof allow_base / sizeof *allow_base, BEGIN | STEP | READ | JUDGE, 0},
     {"record", record, sizeof *record, sizeof record / sizeof *record, BEGIN | STEP | READ, 0},
     {"counts", counts, sizeof *counts, sizeof counts / sizeof *counts, PREPARE | BEGIN | STEP | JUDGE, 1},
@@ -92,12 +93,22 @@ static uint32_t judge(void) {
     return hitrovzen_judge(QUERY, PLACES, BASES, HITROVZEN_ARRAY(selection), WORK, &index_, &verdict, &ground);
 }
 
+/* A mover that reaches differently far to each side, and a post that keeps it off eight centres: columns 1 to 4 of rows 1 and 2. */
+#define MOVER 1, 0, 2, 1
+#define POST 3, 2, 4, 3
+
+static uint32_t cover(void) { return hitrovzen_cover(WINDOW, MOVER, POST, block_base, told[BLOCK_BASE]); }
+
+static uint32_t lift(void) { return hitrovzen_lift(WINDOW, MOVER, POST, block_base, told[BLOCK_BASE]); }
+
 static uint32_t call(int which) {
     switch (which) {
     case PREPARE: return prepare();
     case BEGIN: return begin();
     case STEP: return step(1);
     case READ: return read(0);
+    case COVER: return cover();
+    case LIFT: return lift();
     default: return judge();
     }
 }
@@ -191,7 +202,7 @@ static void search(void) {
 /* Each area one element too short, in turn: 6 from the calls that take it, which write nothing. */
 static void too_short(void) {
     for (int a = 0; a < AREAS; a++) {
-        for (int which = PREPARE; which <= JUDGE; which *= 2) {
+        for (int which = PREPARE; which <= LIFT; which *= 2) {
             if (!(areas[a].taken & which)) continue;
             soil(1);
             keep();
@@ -237,12 +248,105 @@ static void refusals(void) {
     holds(step(1) == 0 && index_ == 0, "the search goes on after refusals", "step");
 }
 
+/* The baseline is the one that was kept, but for this much more at the centres off which POST keeps the mover. */
+static int raised_by(int much) {
+    for (int c = 0; c < CENTRES; c++) {
+        int x = c % 7, y = c / 7, off = 1 <= x && x <= 4 && 1 <= y && y <= 2;
+        if (block_base[c] != kept[BLOCK_BASE][c] + (off ? much : 0)) return 0;
+    }
+    return 1;
+}
+
+static void others_as_kept(const char *statement) {
+    for (int a = 0; a < AREAS; a++)
+        if (a != BLOCK_BASE) holds(as_kept(a), statement, areas[a].name);
+}
+
+static void counted(void) {
+    keep();
+    holds(cover() == 0 && raised_by(1), "a cover adds 1 at the centres that the rectangle reaches", "cover");
+    holds(cover() == 0 && raised_by(2), "and 1 again", "cover");
+    others_as_kept("cover writes a baseline alone");
+    holds(lift() == 0 && raised_by(1), "a lift takes 1 away", "lift");
+    others_as_kept("lift writes a baseline alone");
+    holds(filled(BLOCK_BASE, 1, 0xA5), "cover and lift write nothing past the centres", "block_base");
+    told[BLOCK_BASE] = CENTRES;
+    holds(cover() == 0 && lift() == 0 && lift() == 0, "as many bytes as centres are long enough", "block_base");
+    whole();
+    all_as_kept("lifts undo covers");
+    holds(hitrovzen_cover(WINDOW, MOVER, 9, 0, 10, 6, block_base, told[BLOCK_BASE]) == 0, "a rectangle out of reach is covered", "cover");
+    holds(hitrovzen_lift(WINDOW, MOVER, 9, 0, 10, 6, block_base, told[BLOCK_BASE]) == 0, "and lifted", "lift");
+    all_as_kept("but reaches no centre");
+}
+
+/* The last centre that POST reaches is the one that cannot change, so every other one would be written before it. */
+static void out_of_range(void) {
+    uint8_t *last = block_base + 2 * 7 + 4, before = *last;
+    keep();
+    holds(lift() == HITROVZEN_COUNT_OUT_OF_RANGE, "a lift of nothing is refused", "lift");
+    all_as_kept("20 writes nothing");
+    *last = 255;
+    keep();
+    holds(cover() == HITROVZEN_COUNT_OUT_OF_RANGE, "a cover past 255 is refused", "cover");
+    all_as_kept("20 writes nothing");
+    *last = before;
+    holds(cover() == 0, "a cover is accepted", "cover");
+    *last = 0;
+    keep();
+    holds(lift() == HITROVZEN_COUNT_OUT_OF_RANGE, "a lift past zero is refused", "lift");
+    all_as_kept("20 writes nothing");
+    *last = before + 1;
+    holds(lift() == 0, "a lift is accepted", "lift");
+}
+
+typedef uint32_t change(
+    int32_t, int32_t, int32_t, int32_t, uint32_t, uint32_t, uint32_t, uint32_t, int32_t, int32_t, int32_t, int32_t, uint8_t *, size_t);
+
+/* Everything wrong at first, then one thing less each time. The whole baseline at 0 or 255 is the last of them. */
+static void in_order(change *made, uint8_t bound, const char *name) {
+    uint8_t before[CENTRES];
+    memcpy(before, block_base, CENTRES);
+    memset(block_base, bound, CENTRES);
+    keep();
+    holds(made(0, 0, 8193, 6, 257, 0, 0, 0, 3, 2, 3, 2, block_base, CENTRES - 1) == HITROVZEN_WINDOW_INVALID, "2 is looked at first", name);
+    holds(made(WINDOW, 257, 0, 0, 0, 3, 2, 3, 2, block_base, CENTRES - 1) == HITROVZEN_BOUND_TOO_LARGE, "then 4", name);
+    holds(made(WINDOW, MOVER, 3, 2, 3, 2, block_base, CENTRES - 1) == HITROVZEN_AREA_TOO_SHORT, "then 6", name);
+    holds(made(WINDOW, MOVER, 3, 2, 3, 3, block_base, CENTRES) == HITROVZEN_PLACEMENT_INVALID, "then 15, for no columns", name);
+    holds(made(WINDOW, MOVER, 3, 2, 4, 2, block_base, CENTRES) == HITROVZEN_PLACEMENT_INVALID, "and for no rows", name);
+    holds(made(WINDOW, MOVER, 4, 2, 3, 3, block_base, CENTRES) == HITROVZEN_PLACEMENT_INVALID, "and for columns inverted", name);
+    holds(made(WINDOW, MOVER, 3, 3, 4, 2, block_base, CENTRES) == HITROVZEN_PLACEMENT_INVALID, "and for rows inverted", name);
+    holds(made(WINDOW, MOVER, POST, block_base, CENTRES) == HITROVZEN_COUNT_OUT_OF_RANGE, "then 20", name);
+    all_as_kept("no refusal writes anything");
+    memcpy(block_base, before, CENTRES);
+}
+
+/* The search over counts of any size is the one over 0 and 1. The column on the right gives the allowed mover's baseline counts too. */
+static void any_counts(void) {
+    holds(hitrovzen_cover(WINDOW, ALLOW, 6, 0, 7, 6, allow_base, told[ALLOW_BASE]) == 0, "a column is covered", "cover");
+    soil(1);
+    holds(begin() == 0 && step(STATES) == 0 && judge() == 0, "the search is exhausted", "step");
+    keep();
+    uint32_t verdict_before = verdict, ground_before = ground;
+    for (int c = 0; c < CENTRES; c++) {
+        block_base[c] = block_base[c] ? (uint8_t)(255 - c) : 0;
+        allow_base[c] = allow_base[c] ? (uint8_t)(2 + c) : 0;
+    }
+    holds(begin() == 0 && step(STATES) == 0 && read(2) == 0 && judge() == 0, "counts of any size are taken", "counts");
+    holds(verdict == verdict_before && ground == ground_before, "and judged as 1", "judge");
+    for (int a = RECORD; a < AREAS; a++) holds(as_kept(a), "and searched as 1", areas[a].name);
+}
+
 int main(void) {
     whole();
     lengths();
     search();
     too_short();
     refusals();
+    counted();
+    out_of_range();
+    in_order(hitrovzen_cover, 255, "cover");
+    in_order(hitrovzen_lift, 0, "lift");
+    any_counts();
     printf("%u statements held, %u did not\n", held, failed);
     return failed != 0;
 }

@@ -2,8 +2,8 @@
 //! and record.
 //!
 //! The originals make other checks (`validate_query`, `WallSearch::new`), so these are of our own.
-//! Left out: 6 and 13, which look at areas that the Rust does not have, and 7 to 9, which `run` takes
-//! from the original `prepare_mover` and `route`.
+//! Left out: 6, which looks at areas that the Rust does not have; 7 to 9, which `run` takes from the
+//! original `prepare_mover` and `route`; cover and lift, which the Rust does not have.
 
 use crate::case::{Bounds, Case, Reason, Rect, Snapshot};
 

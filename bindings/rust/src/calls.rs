@@ -17,10 +17,10 @@ use crate::{
     areas::{Store, Work, RECORD},
     raw,
     refusal::Refusal,
-    values::{Bounds, Limits, Plan},
+    values::{Bounds, Limits, Plan, Rect},
 };
 
-/// The inputs of all calls but prepare: a plan, its placements laid flat, and its movers' baselines.
+/// The inputs of the calls that take placements: a plan, its placements laid flat, and its movers' baselines.
 pub(crate) struct Asked<'a> {
     pub(crate) plan: &'a Plan,
     pub(crate) numbers: &'a [u32],
@@ -39,7 +39,7 @@ impl Asked<'_> {
     }
 }
 
-fn answer(number: u32, index: u32) -> Result<(), Refusal> {
+fn answer(number: u32, index: Option<u32>) -> Result<(), Refusal> {
     match number {
         0 => Ok(()),
         _ => Err(Refusal::numbered(number, index)),
@@ -88,7 +88,47 @@ pub(crate) fn prepare(
             work.route.len(),
         )
     };
-    answer(number, 0)
+    answer(number, None)
+}
+
+/// A call that alters a mover's baseline by a rectangle.
+#[derive(Clone, Copy)]
+pub(crate) enum Change {
+    Cover,
+    Lift,
+}
+
+pub(crate) fn change(
+    change: Change,
+    baseline: &mut [u8],
+    window: Rect,
+    mover: Bounds,
+    building: Rect,
+) -> Result<(), Refusal> {
+    let call = match change {
+        Change::Cover => raw::hitrovzen_cover,
+        Change::Lift => raw::hitrovzen_lift,
+    };
+    // SAFETY: see the head of this module.
+    let number = unsafe {
+        call(
+            window.left,
+            window.top,
+            window.right,
+            window.bottom,
+            mover.left,
+            mover.top,
+            mover.right,
+            mover.bottom,
+            building.left,
+            building.top,
+            building.right,
+            building.bottom,
+            baseline.as_mut_ptr(),
+            baseline.len(),
+        )
+    };
+    answer(number, None)
 }
 
 pub(crate) fn begin(
@@ -156,7 +196,7 @@ pub(crate) fn begin(
             &mut index,
         )
     };
-    answer(number, index)
+    answer(number, Some(index))
 }
 
 pub(crate) fn step(
@@ -226,7 +266,7 @@ pub(crate) fn step(
             &mut index,
         )
     };
-    answer(number, index)
+    answer(number, Some(index))
 }
 
 /// The part of the points area that holds the route past layout `k`.
@@ -290,7 +330,7 @@ pub(crate) fn read(
             &mut count,
         )
     };
-    answer(number, index)?;
+    answer(number, Some(index))?;
     // at most 1,000,000 points are kept
     let from = (first as usize).saturating_mul(2);
     Ok(from..from.saturating_add((count as usize).saturating_mul(2)))
@@ -353,7 +393,7 @@ pub(crate) fn judge(
             &mut ground,
         )
     };
-    answer(number, index)?;
+    answer(number, Some(index))?;
     let verdict = Verdict::numbered(verdict).ok_or(Refusal::UNNAMED)?;
     Ok(Judgement { verdict, ground })
 }

@@ -2,7 +2,8 @@
 //!
 //! Hand in a [`Plan`]: a window of a map, two ends, a mover to keep out, perhaps a mover to let pass, and the places where
 //! buildings may stand. A [`Planner`] prepares the movers. It begins [searches](Planner::search), which list the
-//! sets of buildings that wall the first mover off, and [judges](Planner::judge) selections of your own.
+//! sets of buildings that wall the first mover off, and [judges](Planner::judge) selections of your own. Between searches a
+//! building is dragged by [lifting](Planner::lift) it and [covering](Planner::cover) it elsewhere, without preparing anew.
 //!
 //! A wall is a set of placements, within each group's slots and with no footprints overlapping, that leaves both ends open to
 //! the blocked mover, leaves it no route, gives it one again when any single member is lifted, and leaves the allowed mover,

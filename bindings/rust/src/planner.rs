@@ -5,17 +5,18 @@ use std::sync::{Mutex, MutexGuard, PoisonError};
 use crate::{
     answers::Judgement,
     areas::{self, Store, Work, RECORD},
-    calls::{self, Asked},
+    calls::{self, Asked, Change},
     refusal::{Mover, Refusal},
     search::Search,
-    values::{Bounds, Limits, Plan},
+    values::{Bounds, Limits, Plan, Rect},
 };
 
 /// A plan with its movers prepared: it begins searches and judges selections.
 ///
-/// The planner owns the plan, the movers' baselines and the working areas. What it owns cannot be altered while it lives, so a
-/// search, which borrows it, is on the same inputs from its first call to its last. [`Planner::into_plan`] gives the plan
-/// back, for another planner.
+/// The planner owns the plan, the movers' baselines and the working areas. The plan cannot be altered while the planner lives, and
+/// the baselines only by [`Planner::cover`] and [`Planner::lift`]. These two need the planner to themselves, and a search borrows it:
+/// as long as a search is used, the compiler takes neither. So a search is on the same inputs from its first call to its last.
+/// [`Planner::into_plan`] gives the plan back, for another planner.
 ///
 /// Searches of one planner share its working areas and take turns at them, also across threads.
 ///
@@ -102,11 +103,139 @@ impl Planner {
         self.plan
     }
 
+    /// The counts of a mover, a byte for each centre of the window, row by row: how much keeps it off there. A centre is blocked
+    /// where its count is not zero. Preparing marks 0 or 1, a cover adds 1 and a lift takes 1 away. Empty where there is no allowed
+    /// mover.
+    pub fn baseline(&self, mover: Mover) -> &[u8] {
+        match mover {
+            Mover::Block => &self.block_base,
+            Mover::Allow => &self.allow_base,
+        }
+    }
+
+    /// Puts a building down: adds 1 to the count of each centre off which its rectangle keeps a mover, for both movers or for
+    /// neither.
+    ///
+    /// The rectangle is what keeps movers off, as [`Placement::collision`](crate::Placement::collision) is. It may lie anywhere; one
+    /// that reaches no centre of the window changes nothing. What a cover costs grows with the rectangle, not with the window, so
+    /// an editor drags a building by lifting it and covering it elsewhere, and prepares nothing anew. Searches that begin later, and
+    /// judgements, look at the counts as they then are, and answer as if every count that is not zero were 1.
+    ///
+    /// # Errors
+    ///
+    /// Refusals 15, for a rectangle that is empty or inverted, and 20, for a count that would pass 255. A refusal leaves the counts
+    /// of both movers as they were.
+    ///
+    /// # Examples
+    ///
+    /// A gap of three pixels, a post that closes the upper two of them and one that closes the lower two, and a rock that is
+    /// dragged from below to above and back:
+    ///
+    /// ```
+    /// use hitrovzen::{Bounds, Limits, Map, Mover, Placement, Plan, Planner, Position, Rect, Refusal};
+    ///
+    /// fn walls(planner: &Planner) -> Result<Vec<Vec<u16>>, Refusal> {
+    ///     let mut search = planner.search(Limits::WIDEST)?;
+    ///     search.run()?;
+    ///     Ok(search.layouts().map(|layout| layout.indexes().to_vec()).collect())
+    /// }
+    ///
+    /// # fn main() -> Result<(), Refusal> {
+    /// let mut plan = Plan::new(Map::open(1, 1), Rect::new(0, 0, 5, 3), Position::new(0, 1), Position::new(4, 1), Bounds::default());
+    /// plan.groups = vec![1];
+    /// plan.placements = vec![Placement::solid(0, Rect::new(2, 0, 3, 2)), Placement::solid(0, Rect::new(2, 1, 3, 3))];
+    /// let mut planner = Planner::new(plan)?;
+    /// let (above, below) = (Rect::new(2, 0, 3, 1), Rect::new(2, 2, 3, 3));
+    /// assert!(walls(&planner)?.is_empty());
+    ///
+    /// planner.cover(below)?;
+    /// assert_eq!(walls(&planner)?, [[0]]);
+    /// let counts = planner.baseline(Mover::Block).to_vec();
+    ///
+    /// planner.lift(below)?;
+    /// planner.cover(above)?;
+    /// assert_eq!(walls(&planner)?, [[1]]);
+    ///
+    /// planner.lift(above)?;
+    /// planner.cover(below)?;
+    /// assert_eq!(walls(&planner)?, [[0]]);
+    /// assert_eq!(planner.baseline(Mover::Block), counts);
+    /// # Ok(())
+    /// # }
+    /// ```
+    ///
+    /// A search that is still used keeps the baselines as they are:
+    ///
+    /// ```compile_fail,E0502
+    /// # use hitrovzen::{Limits, Planner, Rect, Refusal};
+    /// # fn drag(planner: &mut Planner, building: Rect) -> Result<(), Refusal> {
+    /// let mut search = planner.search(Limits::WIDEST)?;
+    /// planner.cover(building)?;
+    /// search.run()?;
+    /// # Ok(())
+    /// # }
+    /// ```
+    pub fn cover(&mut self, building: Rect) -> Result<(), Refusal> {
+        self.change(building, Change::Cover, Change::Lift)
+    }
+
+    /// Takes a building up again: takes 1 from the counts to which [`Planner::cover`] adds 1, for both movers or for neither.
+    ///
+    /// A cover and then its lift leave every count as it was, and so do several covers lifted in any order; each of these lifts is
+    /// accepted. A count does not tell what raised it: a rectangle that was never covered is lifted too where no count would pass
+    /// zero, and centres that preparing marked may come open by it.
+    ///
+    /// ```
+    /// use hitrovzen::{Bounds, Kind, Map, Mover, Plan, Planner, Position, Rect};
+    ///
+    /// # fn main() -> Result<(), hitrovzen::Refusal> {
+    /// let plan = Plan::new(Map::open(1, 1), Rect::new(0, 0, 3, 2), Position::new(0, 0), Position::new(2, 0), Bounds::default());
+    /// let mut planner = Planner::new(plan)?;
+    /// let (rock, ruin) = (Rect::new(1, 1, 3, 2), Rect::new(2, 0, 3, 2));
+    /// planner.cover(rock)?;
+    /// planner.cover(ruin)?;
+    /// assert_eq!(planner.baseline(Mover::Block), [0, 0, 1, 0, 1, 2]);
+    /// planner.lift(rock)?;
+    /// assert_eq!(planner.baseline(Mover::Block), [0, 0, 1, 0, 0, 1]);
+    /// assert_eq!(planner.lift(rock).unwrap_err().kind(), Kind::CountOutOfRange);
+    /// planner.lift(ruin)?;
+    /// assert_eq!(planner.baseline(Mover::Block), [0; 6]);
+    /// # Ok(())
+    /// # }
+    /// ```
+    ///
+    /// # Errors
+    ///
+    /// Refusals 15, for a rectangle that is empty or inverted, and 20, for a count that would pass zero. A refusal leaves the counts
+    /// of both movers as they were.
+    pub fn lift(&mut self, building: Rect) -> Result<(), Refusal> {
+        self.change(building, Change::Lift, Change::Cover)
+    }
+
+    /// Alters the counts of both movers, or of neither. `undo` is the inverse of `make`.
+    fn change(&mut self, building: Rect, make: Change, undo: Change) -> Result<(), Refusal> {
+        let (window, block) = (self.plan.window, self.plan.block);
+        calls::change(make, &mut self.block_base, window, block, building)
+            .map_err(|refusal| refusal.of(Mover::Block))?;
+        let Some(allow) = self.plan.allow else {
+            return Ok(());
+        };
+        let made = calls::change(make, &mut self.allow_base, window, allow, building);
+        let Err(refusal) = made else {
+            return Ok(());
+        };
+        // Either call right after the other is proved to be accepted and to restore every count (docs/RULES.md 12.5).
+        let undone = calls::change(undo, &mut self.block_base, window, block, building);
+        undone.map_err(|_| Refusal::UNNAMED)?;
+        Err(refusal.of(Mover::Allow))
+    }
+
     /// Begins a search: nothing is evaluated yet.
     ///
     /// # Errors
     ///
-    /// Refusals 10 to 12, 14 and 15; the last tells the index of the first placement that is not taken.
+    /// Refusals 10 to 12; 7 to 9 where buildings that were covered close an end or every route, to the blocked mover or else to the
+    /// allowed one; 14 and 15, of which the last tells the index of the first placement that is not taken.
     pub fn search(&self, limits: Limits) -> Result<Search<'_>, Refusal> {
         let mut record = [0; RECORD];
         let mut store = Store::new(&self.plan, limits);
@@ -130,7 +259,7 @@ impl Planner {
         calls::judge(&self.asked(), selection, &mut self.work())
     }
 
-    /// The inputs of all calls but prepare.
+    /// The inputs of the calls that take placements.
     pub(crate) fn asked(&self) -> Asked<'_> {
         Asked {
             plan: &self.plan,

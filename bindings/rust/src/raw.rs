@@ -1,4 +1,4 @@
-//! The five functions of the static library, as C declares them (`bindings/walls.h` tells of each parameter).
+//! The seven functions of the static library, as C declares them (`bindings/walls.h` tells of each parameter).
 //!
 //! A slice is two arguments: a pointer, then the number of elements. Each function answers 0 where it accepted the call, else
 //! the number of its refusal, and writes only within the lengths it is given.
@@ -44,6 +44,42 @@ extern "C" {
         predecessors_len: usize,
         route: *mut u32,
         route_len: usize,
+    ) -> u32;
+
+    /// Adds 1 to a baseline's count of each centre off which a rectangle keeps the mover.
+    pub fn hitrovzen_cover(
+        window_left: i32,
+        window_top: i32,
+        window_right: i32,
+        window_bottom: i32,
+        mover_left: u32,
+        mover_top: u32,
+        mover_right: u32,
+        mover_bottom: u32,
+        rect_left: i32,
+        rect_top: i32,
+        rect_right: i32,
+        rect_bottom: i32,
+        baseline: *mut u8,
+        baseline_len: usize,
+    ) -> u32;
+
+    /// Takes 1 from a baseline's count of each centre off which a rectangle keeps the mover.
+    pub fn hitrovzen_lift(
+        window_left: i32,
+        window_top: i32,
+        window_right: i32,
+        window_bottom: i32,
+        mover_left: u32,
+        mover_top: u32,
+        mover_right: u32,
+        mover_bottom: u32,
+        rect_left: i32,
+        rect_top: i32,
+        rect_right: i32,
+        rect_bottom: i32,
+        baseline: *mut u8,
+        baseline_len: usize,
     ) -> u32;
 
     /// Begins a search and fills its record.

@@ -31,16 +31,18 @@ pub enum Kind {
     StateLimitInvalid = 11,
     /// The result limit is not 1 to 32.
     ResultLimitInvalid = 12,
-    /// A baseline byte above 1. Baselines are made and kept by the planner, so it does not meet it.
-    BaselineInvalid = 13,
+    // 13 is reserved: no call gives it.
     /// Over 6,144 placements.
     TooManyPlacements = 14,
-    /// Spec index, group or a rectangle of the placement whose index is given.
+    /// Spec index, group or a rectangle of the placement whose index is given; or an empty rectangle to cover or lift.
     PlacementInvalid = 15,
     /// The record is not that of a search over these inputs. A [`Search`](crate::Search) keeps its own, so it does not meet it.
     RecordInvalid = 16,
     /// No layout of that number, or no selection.
     SelectionInvalid = 17,
+    // 18 is an answer of the program that reads drive sheets. 19 is reserved.
+    /// A cover that would pass 255, or a lift that would pass zero.
+    CountOutOfRange = 20,
 }
 
 const KINDS: [(Kind, &str); 18] = [
@@ -57,14 +59,14 @@ const KINDS: [(Kind, &str); 18] = [
     (Kind::GroupsInvalid, "There are more than 6 groups, a group has not 1 to 6 slots, or there are more than 6 slots together."),
     (Kind::StateLimitInvalid, "The state limit is not 1 to 100,000."),
     (Kind::ResultLimitInvalid, "The result limit is not 1 to 32."),
-    (Kind::BaselineInvalid, "A baseline has a byte above 1."),
     (Kind::TooManyPlacements, "There are more than 6,144 placements."),
-    (Kind::PlacementInvalid, "A placement has a spec index above 5, no such group, an empty rectangle or a footprint not wholly inside the window."),
+    (Kind::PlacementInvalid, "A placement has a spec index above 5, no such group, an empty rectangle or a footprint not wholly inside the window; or the rectangle to cover or lift is empty."),
     (Kind::RecordInvalid, "The record and its areas are not those of a search over these inputs."),
     (Kind::SelectionInvalid, "No layout has this number, or the selection does not ascend strictly, names no placement or has more than 6."),
+    (Kind::CountOutOfRange, "A cover would take a count above 255, or a lift one below zero."),
 ];
 
-/// The mover that a planner was preparing.
+/// One of a planner's two movers.
 #[derive(Clone, Copy, Debug, PartialEq, Eq, Hash)]
 pub enum Mover {
     /// The one that a wall keeps out.
@@ -92,14 +94,15 @@ pub struct Refusal {
 }
 
 impl Refusal {
-    /// The refusal that the library answered with. The index counts for placements alone.
-    pub(crate) fn numbered(number: u32, index: u32) -> Self {
+    /// The refusal that the library answered with. Calls that take placements give an index, which
+    /// counts for 15 alone.
+    pub(crate) fn numbered(number: u32, index: Option<u32>) -> Self {
         let named = KINDS.iter().find(|(kind, _)| *kind as u32 == number);
         let kind = named.map_or(Kind::Unnamed, |(kind, _)| *kind);
-        let index = (kind == Kind::PlacementInvalid).then_some(index as usize);
+        let index = index.filter(|_| kind == Kind::PlacementInvalid);
         Self {
             kind,
-            index,
+            index: index.map(|index| index as usize),
             mover: None,
         }
     }
@@ -122,7 +125,7 @@ impl Refusal {
         self.kind
     }
 
-    /// The number of the refusal, 1 to 17.
+    /// The number of the refusal, which is that of its kind.
     pub fn number(&self) -> u32 {
         self.kind as u32
     }
@@ -133,12 +136,13 @@ impl Refusal {
         named.map_or("", |(_, sentence)| sentence)
     }
 
-    /// The index of the first placement that is not taken, where the number is 15.
+    /// The index of the first placement that is not taken, where a search or a judgement was refused with 15. A rectangle to cover
+    /// or lift has none.
     pub fn index(&self) -> Option<usize> {
         self.index
     }
 
-    /// The mover that was being prepared, where the refusal came from preparing.
+    /// The mover that was being prepared, or whose baseline was being covered or lifted off.
     pub fn mover(&self) -> Option<Mover> {
         self.mover
     }
@@ -157,6 +161,12 @@ impl fmt::Display for Refusal {
             (Kind::StartBlocked | Kind::EndBlocked | Kind::NoRoute, Some(Mover::Allow)) => {
                 write!(f, " It is the allowed mover.")
             }
+            (Kind::CountOutOfRange, Some(Mover::Block)) => {
+                write!(f, " It is a count of the blocked mover.")
+            }
+            (Kind::CountOutOfRange, Some(Mover::Allow)) => {
+                write!(f, " It is a count of the allowed mover.")
+            }
             _ => Ok(()),
         }
     }
@@ -169,35 +179,38 @@ mod tests {
     use super::*;
 
     #[test]
-    fn numbers_count_up() {
-        for (number, (kind, _)) in KINDS.iter().enumerate() {
-            assert_eq!(*kind as usize, number);
-            assert_eq!(Refusal::numbered(number as u32, 0).kind(), *kind);
+    fn numbers_are_those_of_the_library() {
+        let numbers = (0..=12).chain(14..=17).chain([20]);
+        assert!(numbers.eq(KINDS.iter().map(|(kind, _)| *kind as u32)));
+        for (kind, _) in KINDS {
+            assert_eq!(Refusal::numbered(kind as u32, None).kind(), kind);
         }
-        for number in [18, 99, u32::MAX] {
-            assert_eq!(Refusal::numbered(number, 7), Refusal::UNNAMED);
+        for number in [13, 18, 19, 21, 99, u32::MAX] {
+            assert_eq!(Refusal::numbered(number, Some(7)), Refusal::UNNAMED);
         }
     }
 
     #[test]
     fn only_a_placement_has_an_index() {
         for (kind, _) in KINDS {
-            let index = Refusal::numbered(kind as u32, 7).index();
+            let index = Refusal::numbered(kind as u32, Some(7)).index();
             assert_eq!(index, (kind == Kind::PlacementInvalid).then_some(7));
+            assert_eq!(Refusal::numbered(kind as u32, None).index(), None);
         }
     }
 
-    /// The header has the same numbers with the same sentences.
+    /// The header has the same numbers with the same sentences, and no others.
     #[test]
     fn sentences_are_those_of_the_header() {
         let header = include_str!("../../walls.h");
-        for (kind, sentence) in &KINDS[1..] {
-            let number = *kind as u32;
-            let line = header.lines().find(|line| line.contains(sentence));
-            let line = line.unwrap_or_else(|| panic!("no sentence for {number}"));
-            let named = line.split_once(" = ").map(|(_, rest)| rest);
-            let digits = named.map(|rest| rest.split(|c: char| !c.is_ascii_digit()).next());
-            assert_eq!(digits, Some(Some(number.to_string().as_str())));
+        let answers = header.split("enum hitrovzen_answer {").nth(1).unwrap();
+        let lines = answers.split("};").next().unwrap().lines();
+        let answers: Vec<(&str, &str)> = lines.filter_map(|line| line.split_once(" = ")).collect();
+        assert_eq!(answers.len(), KINDS.len());
+        for ((_, said), (kind, sentence)) in answers.iter().zip(&KINDS).skip(1) {
+            let digits = said.split(|c: char| !c.is_ascii_digit()).next();
+            assert_eq!(digits, Some((*kind as u32).to_string().as_str()));
+            assert!(said.contains(&format!("/* {sentence} */")), "{said}");
         }
     }
 }

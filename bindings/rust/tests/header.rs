@@ -47,7 +47,7 @@ fn the_declarations_agree() {
     let rust = declared(RAW, "pub fn ", ") -> u32;");
     let c = declared(HEADER, "\nuint32_t ", ");");
     let names: Vec<&str> = rust.iter().map(|(name, _)| *name).collect();
-    let calls = ["prepare", "begin", "step", "read", "judge"];
+    let calls = ["prepare", "cover", "lift", "begin", "step", "read", "judge"];
     assert_eq!(names, calls.map(|call| format!("hitrovzen_{call}")));
     assert_eq!(rust.len(), c.len());
     for ((rust_name, rust), (c_name, c)) in rust.iter().zip(&c) {

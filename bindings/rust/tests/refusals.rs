@@ -238,6 +238,73 @@ fn placement() {
 }
 
 #[test]
+fn rectangles_that_are_empty() {
+    let mut planner = Planner::new(plan()).unwrap();
+    for building in [
+        Rect::new(2, 0, 2, 3),
+        Rect::new(2, 1, 3, 1),
+        Rect::new(3, 0, 2, 3),
+        Rect::new(2, 3, 3, 0),
+        Rect::new(i32::MAX, i32::MAX, i32::MIN, i32::MIN),
+    ] {
+        let refusal = planner.cover(building).unwrap_err();
+        assert_eq!(planner.lift(building), Err(refusal));
+        assert_eq!(
+            (refusal.kind(), refusal.number()),
+            (Kind::PlacementInvalid, 15)
+        );
+        assert_eq!(refusal.index(), None);
+        assert!(refusal
+            .to_string()
+            .ends_with("or the rectangle to cover or lift is empty."));
+    }
+    assert_eq!(planner.baseline(Mover::Block), [0; 15]);
+}
+
+#[test]
+fn counts() {
+    let mut planner = Planner::new(plan()).unwrap();
+    let post = Rect::new(2, 1, 4, 3);
+    let refusal = planner.lift(post).unwrap_err();
+    assert_eq!(
+        (refusal.kind(), refusal.number()),
+        (Kind::CountOutOfRange, 20)
+    );
+    assert_eq!(
+        refusal.to_string(),
+        "refused with 20: A cover would take a count above 255, or a lift one below zero. It is a count of the blocked mover."
+    );
+    assert_eq!(
+        (refusal.index(), refusal.mover()),
+        (None, Some(Mover::Block))
+    );
+    assert_eq!(planner.baseline(Mover::Block), [0; 15]);
+
+    // the last centre alone is ahead, so that every other one would be written before it
+    planner.cover(Rect::new(3, 2, 4, 3)).unwrap();
+    for _ in 0..254 {
+        planner.cover(post).unwrap();
+    }
+    let before = planner.baseline(Mover::Block).to_vec();
+    assert_eq!((before[7], before[13]), (254, 255));
+    assert_eq!(planner.cover(post), Err(refusal));
+    assert_eq!(planner.baseline(Mover::Block), before);
+    planner.lift(Rect::new(3, 2, 4, 3)).unwrap();
+    assert_eq!(planner.cover(post), Ok(()));
+    assert_eq!(planner.cover(post), Err(refusal));
+
+    // and now alone behind
+    planner.lift(Rect::new(3, 2, 4, 3)).unwrap();
+    for _ in 0..254 {
+        planner.lift(post).unwrap();
+    }
+    let before = planner.baseline(Mover::Block).to_vec();
+    assert_eq!((before[7], before[13]), (1, 0));
+    assert_eq!(planner.lift(post), Err(refusal));
+    assert_eq!(planner.baseline(Mover::Block), before);
+}
+
+#[test]
 fn no_layout_and_no_selection() {
     let planner = Planner::new(plan()).unwrap();
     let mut search = planner.search(LIMITS).unwrap();

@@ -1,5 +1,5 @@
-//! The inputs. Each is made anew by fixed rules; nothing is drawn by chance but the terrain of `rough` and the stones of `winding`, whose seeds
-//! are fixed.
+//! The inputs. Each is made anew by fixed rules; nothing is drawn by chance but the terrain of `rough` and `dragged_on` and the stones of
+//! `winding`, whose seeds are fixed.
 
 use std::ops::Range;
 
@@ -98,7 +98,7 @@ pub fn rough(size: Size) -> Case {
     }
     case.block = same(7);
     (1..)
-        .map(|seed| strewn(&case, size, seed))
+        .map(|seed| strewn(&case, size, (50, 40), seed))
         .find(|case| Baselines::prepare(case).is_ok())
         .expect("a seed whose ground joins the ends")
 }
@@ -114,18 +114,54 @@ fn chance(seed: u64) -> impl FnMut(u64) -> u64 {
     }
 }
 
-fn strewn(case: &Case, (width, height): Size, seed: u64) -> Case {
+/// One cell in so many shut, drawn by chance, and so many obstacles.
+fn strewn(case: &Case, (width, height): Size, (shut, obstacles): (u64, usize), seed: u64) -> Case {
     let mut below = chance(seed);
     let mut case = case.clone();
     for cell in &mut case.cells {
-        *cell = u8::from(below(50) != 0);
+        *cell = u8::from(below(shut) != 0);
     }
-    case.obstacles = (0..40)
+    case.obstacles = (0..obstacles)
         .map(|_| {
             let (x, y) = (below(width as u64) as i32, below(height as u64) as i32);
             Rect::new(x, y, x + 20, y + 12)
         })
         .collect();
+    case
+}
+
+/// A building of so many tiles, a tile being 32 pixels wide and high, where a drag takes it up and where it puts it down. The mover of
+/// `dragged_on` is kept off centres of the window alone, at every size, and has room above.
+pub fn dragged((across, down): (i32, i32)) -> (Rect, Rect) {
+    let at = |x: i32, y: i32| Rect::new(x, y, x + 32 * across, y + 32 * down);
+    (at(8, 48), at(24, 56))
+}
+
+/// Terrain with every four hundredth cell shut, drawn by chance, and eight obstacles; the ends at the upper corners. A seed whose ground joins the
+/// ends also past a building of 8 × 6 tiles at both its places.
+pub fn dragged_on(size: Size) -> Case {
+    let case = Case {
+        start: (8, 8),
+        end: (size.0 as u32 - 9, 8),
+        block: same(7),
+        ..open(size)
+    };
+    let (from, to) = dragged((8, 6));
+    (1..)
+        .map(|seed| strewn(&case, size, (400, 8), seed))
+        .find(|case| {
+            [from, to]
+                .map(|at| Baselines::prepare(&with(case, at)))
+                .iter()
+                .all(Result::is_ok)
+        })
+        .expect("a seed whose ground joins the ends")
+}
+
+/// The same ground with one obstacle more.
+pub fn with(case: &Case, obstacle: Rect) -> Case {
+    let mut case = case.clone();
+    case.obstacles.push(obstacle);
     case
 }
 

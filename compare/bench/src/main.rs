@@ -1,8 +1,9 @@
 //! Times the original search and its port: same inputs, same driver, in turn. A line a case.
 //!
 //! `bench` prints the lines, `bench --markdown` the rows of the table in docs/PERFORMANCE.md. `bench --only TEXT` takes the cases whose name or
-//! window has the text; `bench --only TEXT --port` and `--original` run one side once, for a profiler. `--cpu` takes the processor's time of this
-//! thread in place of the time on the wall: on a machine that does other work too, what it does meanwhile is then left out.
+//! window has the text, so `bench --only drag` those of cover and lift; `bench --only TEXT --port` and `--original` run one side once, for a
+//! profiler. `--cpu` takes the processor's time of this thread in place of the time on the wall: on a machine that does other work too, what it
+//! does meanwhile is then left out.
 
 mod clock;
 mod inputs;
@@ -176,6 +177,23 @@ fn many_on_small() -> Vec<Line> {
     lines
 }
 
+/// A building dragged, beside the same ground prepared anew with the building as one more obstacle, and one of four times the area.
+fn drags(size: Size) -> Vec<Line> {
+    let drag = |tiles: (i32, i32)| {
+        let (from, to) = inputs::dragged(tiles);
+        let name = format!("drag of a building of {} × {} tiles", tiles.0, tiles.1);
+        let work = Work::Drag { from, to };
+        line(name, size, inputs::dragged_on, work, Buffers::AsLeft)
+    };
+    let anew = |size| inputs::with(&inputs::dragged_on(size), inputs::dragged((4, 3)).1);
+    let prepare = "prepare in place of the drag, 4 × 3 tiles";
+    vec![
+        drag((4, 3)),
+        line(prepare, size, anew, Work::Prepare, Buffers::AsLeft),
+        drag((8, 6)),
+    ]
+}
+
 fn window((width, height): Size) -> String {
     format!("{width} × {height}")
 }
@@ -193,23 +211,36 @@ fn done(measured: &Measured) -> String {
     }
 }
 
+fn ratio(ratio: f64) -> String {
+    if ratio < 0.05 {
+        format!("{ratio:.4}")
+    } else {
+        format!("{ratio:.2}")
+    }
+}
+
 fn tell(line: &Line, measured: &Measured, markdown: bool) {
     let (name, window, buffers) = (&line.name, window(line.size), line.buffers.words());
     let Measured {
         port,
         original,
         runs,
-        repeats,
+        repeats: [calls, others],
         ..
     } = measured;
-    let (done, ratio) = (done(measured), port / original);
+    let (done, ratio) = (done(measured), ratio(port / original));
+    let repeats = if calls == others {
+        calls.to_string()
+    } else {
+        format!("{calls} and {others}")
+    };
     if markdown {
         println!(
-            "| {name} | {window} | {port:.4} | {original:.4} | {buffers} | {runs} × {repeats} | {done} | {ratio:.2} |"
+            "| {name} | {window} | {port:.4} | {original:.4} | {buffers} | {runs} × {repeats} | {done} | {ratio} |"
         );
     } else {
         println!(
-            "{name}; {window}; port {port:.4} ms; Rust {original:.4} ms; {buffers}; runs {runs} × {repeats}; {done}; ratio {ratio:.2}"
+            "{name}; {window}; port {port:.4} ms; Rust {original:.4} ms; {buffers}; runs {runs} × {repeats}; {done}; ratio {ratio}"
         );
     }
 }
@@ -225,7 +256,8 @@ fn main() {
         .into_iter()
         .flat_map(at_every_size)
         .chain([MIDDLE, LARGE].into_iter().flat_map(winding))
-        .chain(many_on_small());
+        .chain(many_on_small())
+        .chain([MIDDLE, LARGE].into_iter().flat_map(drags));
     if has("--cpu") {
         clock::take_processor_time();
     }

@@ -3,7 +3,7 @@
 use std::collections::HashSet;
 use std::time::Duration;
 
-use judge::{Case, Snapshot};
+use judge::{Case, Rect, Snapshot};
 
 use crate::clock;
 use crate::inputs::Size;
@@ -20,6 +20,11 @@ pub enum Work {
         portion: u32,
         held: Option<Snapshot>,
     },
+    /// A building lifted at one place and covered at another.
+    Drag {
+        from: Rect,
+        to: Rect,
+    },
 }
 
 pub struct Line {
@@ -35,7 +40,8 @@ pub struct Measured {
     pub port: f64,
     pub original: f64,
     pub runs: usize,
-    pub repeats: u32,
+    /// Of the port's call and of the original's.
+    pub repeats: [u32; 2],
     pub outcome: Option<Outcome>,
 }
 
@@ -63,6 +69,10 @@ pub fn timed(side: &mut dyn Side, line: &Line) -> Duration {
             }
             side.lend(line.buffers);
             clock(|| steps(side, *evaluations, *portion))
+        }
+        &Work::Drag { from, to } => {
+            side.stand(from, to);
+            clock(|| side.drag(from, to))
         }
     }
 }
@@ -95,7 +105,7 @@ fn median(mut times: Vec<f64>) -> f64 {
 /// The results of both, which must be the same. `whole` compares the visited sets as well.
 fn compared(port: &dyn Side, original: &dyn Side, line: &Line, whole: bool) -> Option<Outcome> {
     let name = &line.name;
-    if matches!(line.work, Work::Prepare) {
+    if matches!(line.work, Work::Prepare | Work::Drag { .. }) {
         assert!(
             port.baseline() == original.baseline(),
             "{name}: two baselines"
@@ -118,13 +128,23 @@ fn compared(port: &dyn Side, original: &dyn Side, line: &Line, whole: bool) -> O
     Some(outcome)
 }
 
+/// How often the port's call and the original's are repeated in a run. A drag is so much shorter than the preparing beside it that each has a
+/// number of its own; all else is repeated equally often.
+fn repeats(line: &Line, first: [f64; 2]) -> [u32; 2] {
+    let often = |time: f64| (50.0 / time).clamp(1.0, 500.0) as u32;
+    match line.work {
+        Work::Drag { .. } => first.map(often),
+        _ => [often(first[0] + first[1]); 2],
+    }
+}
+
 /// The first pair tells how often a call is repeated in a run and how many runs there are: 9, 5 where the pair takes above half a second, 3 above
 /// two seconds; above eight the pair is all.
 pub fn measure(port: &mut Port, original: &mut Original, line: &Line) -> Measured {
     let first = [timed(port, line), timed(original, line)].map(|time| time.as_secs_f64() * 1e3);
     let outcome = compared(port, original, line, true);
     let pair = first[0] + first[1];
-    let repeats = (50.0 / pair).clamp(1.0, 500.0) as u32;
+    let repeats = repeats(line, first);
     let runs = match pair {
         pair if pair > 8_000.0 => 0,
         pair if pair > 2_000.0 => 3,
@@ -133,8 +153,8 @@ pub fn measure(port: &mut Port, original: &mut Original, line: &Line) -> Measure
     };
     let mut times = [Vec::new(), Vec::new()];
     for _ in 0..runs {
-        times[0].push(run(port, line, repeats));
-        times[1].push(run(original, line, repeats));
+        times[0].push(run(port, line, repeats[0]));
+        times[1].push(run(original, line, repeats[1]));
         compared(port, original, line, false);
     }
     if runs == 0 {

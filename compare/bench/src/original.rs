@@ -1,7 +1,7 @@
 //! The original, driven through the judge's probe. Its visited sets have no order and none is noted.
 
 use judge::walls::search::{WallSearch, probe};
-use judge::{Baselines, Case, PixelRect, Snapshot, TerrainGrid};
+use judge::{Baselines, Case, PixelRect, Rect, Snapshot, TerrainGrid};
 
 use crate::side::{Buffers, Outcome, Side};
 
@@ -10,6 +10,8 @@ pub struct Original<'a> {
     baselines: &'a Baselines,
     grid: TerrainGrid,
     obstacles: Vec<PixelRect>,
+    /// The obstacles, and a dragged building where it is put down.
+    with_building: Vec<PixelRect>,
     made: Option<Vec<bool>>,
     search: Option<WallSearch>,
 }
@@ -21,6 +23,7 @@ impl<'a> Original<'a> {
             baselines,
             grid: probe::terrain(case),
             obstacles: case.obstacles.iter().copied().map(probe::rect).collect(),
+            with_building: Vec::new(),
             made: None,
             search: None,
         }
@@ -70,6 +73,18 @@ impl Side for Original<'_> {
     }
 
     fn lend(&mut self, _: Buffers) {}
+
+    fn stand(&mut self, _: Rect, to: Rect) {
+        self.made = None;
+        self.with_building = self.obstacles.clone();
+        self.with_building.push(probe::rect(to));
+    }
+
+    fn drag(&mut self, _: Rect, _: Rect) {
+        let (case, obstacles) = (self.case, &self.with_building);
+        let made = probe::prepare_on(&self.grid, obstacles, case, case.block);
+        self.made = Some(made.expect("an accepted prepare"));
+    }
 
     fn baseline(&self) -> Vec<bool> {
         self.made.clone().expect("a baseline that was prepared")

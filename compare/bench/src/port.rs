@@ -30,7 +30,27 @@ pub struct Port<'a> {
     visited: Vec<u16>,
     layouts: Vec<u16>,
     points: Vec<u32>,
+    /// Where a dragged building stands, once `baseline` holds the counts of a drag.
+    standing: Option<Rect>,
 }
+
+/// Cover and lift: window, mover, rectangle, baseline.
+type Alter = unsafe extern "C" fn(
+    i32,
+    i32,
+    i32,
+    i32,
+    u32,
+    u32,
+    u32,
+    u32,
+    i32,
+    i32,
+    i32,
+    i32,
+    *mut u8,
+    usize,
+) -> u32;
 
 fn edges_of(rect: Rect) -> [i32; 4] {
     [rect.left, rect.top, rect.right, rect.bottom]
@@ -74,7 +94,33 @@ impl<'a> Port<'a> {
             visited: vec![0; ROW * case.states as usize],
             layouts: vec![0; ROW * case.results as usize],
             points: vec![0; points],
+            standing: None,
         }
+    }
+
+    /// Covers the baseline with a building, or lifts it off.
+    fn alter(&mut self, call: Alter, rect: Rect) {
+        let Case { window, block, .. } = self.case;
+        // As in prepare.
+        let answer = unsafe {
+            call(
+                window.left,
+                window.top,
+                window.right,
+                window.bottom,
+                block.left,
+                block.top,
+                block.right,
+                block.bottom,
+                rect.left,
+                rect.top,
+                rect.right,
+                rect.bottom,
+                self.baseline.as_mut_ptr(),
+                self.baseline.len(),
+            )
+        };
+        assert_eq!(answer, 0, "an accepted cover or lift");
     }
 
     /// Given or not, then the bounds of the allowed mover.
@@ -328,8 +374,23 @@ impl Side for Port<'_> {
         self.route.fill(wide);
     }
 
+    /// The first time over the prepared ground; later the building is dragged back.
+    fn stand(&mut self, from: Rect, _: Rect) {
+        match self.standing.replace(from) {
+            Some(at) => self.alter(raw::hitrovzen_lift, at),
+            None => self.baseline.copy_from_slice(&self.block_base),
+        }
+        self.alter(raw::hitrovzen_cover, from);
+    }
+
+    fn drag(&mut self, from: Rect, to: Rect) {
+        self.alter(raw::hitrovzen_lift, from);
+        self.alter(raw::hitrovzen_cover, to);
+        self.standing = Some(to);
+    }
+
     fn baseline(&self) -> Vec<bool> {
-        self.baseline.iter().map(|&mark| mark == 1).collect()
+        self.baseline.iter().map(|&count| count != 0).collect()
     }
 
     fn outcome(&self) -> Outcome {

@@ -1,6 +1,6 @@
 //! What the driver asks of both searches.
 
-use judge::{Layout, Reason, Snapshot};
+use judge::{Layout, Reason, Rect, Snapshot};
 
 /// What a call is timed by: the original or the port. Every timed call is made through these.
 pub trait Side {
@@ -22,6 +22,12 @@ pub trait Side {
 
     /// Sets what a call may find in the lent areas beside the used entries. The original lends none.
     fn lend(&mut self, buffers: Buffers);
+
+    /// Makes ready for a timed drag: the ground with a building at `from`.
+    fn stand(&mut self, from: Rect, to: Rect);
+
+    /// The ground with the building at `to` in its place. The original has no cover and no lift: it prepares anew.
+    fn drag(&mut self, from: Rect, to: Rect);
 
     fn baseline(&self) -> Vec<bool>;
 

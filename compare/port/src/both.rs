@@ -4,14 +4,15 @@
 use judge::walls::search::probe;
 use judge::{Baselines, Case, Mover, Search, Snapshot};
 
+use crate::covers::{self, Change};
 use crate::port;
 use crate::rules;
-use crate::values::{Inputs, Query, Store, Terrain, Work, rect};
+use crate::values::{Building, Inputs, Query, Store, Terrain, Word, Work, rect};
 
 /// What differs, in words.
 pub type Difference = String;
 
-fn same<T: PartialEq + std::fmt::Debug>(what: &str, expected: &T, found: &T) -> Result<(), Difference> {
+pub fn same<T: PartialEq + std::fmt::Debug>(what: &str, expected: &T, found: &T) -> Result<(), Difference> {
     if expected == found {
         return Ok(());
     }
@@ -23,7 +24,7 @@ fn short<T: std::fmt::Debug>(value: &T) -> String {
     if text.len() <= 600 { text } else { text.chars().take(600).chain(" ..".chars()).collect() }
 }
 
-fn same_area<T: PartialEq + std::fmt::Debug>(call: &str, what: &str, expected: &[T], found: &[T]) -> Result<(), Difference> {
+pub fn same_area<T: PartialEq + std::fmt::Debug>(call: &str, what: &str, expected: &[T], found: &[T]) -> Result<(), Difference> {
     if expected == found {
         return Ok(());
     }
@@ -196,4 +197,28 @@ pub fn judge(inputs: &Inputs, selection: &[u16], work: &mut Work, search: Option
     same(&format!("judge's verdict and ground of {selection:?}"), &expected, &(found.verdict, found.ground))?;
     same_work("judge", &work_before.cleared(&inputs.query), work)?;
     Ok(Ok(expected.0))
+}
+
+/// How many bytes stand before and behind the baseline that cover and lift are lent.
+const AROUND: usize = 64;
+
+/// Covers or lifts a building. The answer's number, once the port and the reading of `covers` agree in it and in every byte, also
+/// those around the baseline.
+pub fn alter(change: Change, building: &Building, baseline: &mut [u8]) -> Result<u32, Difference> {
+    let rule = covers::after(change, building, baseline);
+    let around = [u8::PAST; AROUND];
+    let mut lent = [&around, &*baseline, &around].concat();
+    let area = &mut lent[AROUND..AROUND + baseline.len()];
+    let (call, answer) = match change {
+        Change::Cover => ("cover", port::cover(building, area)),
+        Change::Lift => ("lift", port::lift(building, area)),
+    };
+    same(&format!("{call}'s answer"), &rule.as_ref().err().copied().unwrap_or(0), &answer)?;
+    let (before, rest) = lent.split_at(AROUND);
+    let (found, behind) = rest.split_at(baseline.len());
+    same_area(call, "baseline", rule.as_deref().unwrap_or(baseline), found)?;
+    same_area(call, "bytes before the baseline", &around, before)?;
+    same_area(call, "bytes behind the baseline", &around, behind)?;
+    baseline.copy_from_slice(found);
+    Ok(answer)
 }

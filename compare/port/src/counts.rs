@@ -7,23 +7,33 @@ use judge::{Search, Snapshot, count};
 
 use crate::rules::VERDICTS;
 
-pub const CALLS: [&str; 5] = ["prepare", "begin", "step", "read", "judge"];
+pub const CALLS: [&str; 7] = ["prepare", "begin", "step", "read", "judge", "cover", "lift"];
 pub const PREPARE: usize = 0;
 pub const BEGIN: usize = 1;
 pub const STEP: usize = 2;
 pub const READ: usize = 3;
 pub const JUDGE: usize = 4;
+pub const COVER: usize = 5;
+pub const LIFT: usize = 6;
+
+/// By call and answer, 0 for accepted.
+pub type Answers = [[u64; 21]; 7];
+
+/// The alteration of a world that is no fault: a baseline with counts above 1.
+pub const COUNTS_ABOVE_ONE: &str = "counts above 1";
 
 /// Touches by a side centre are counted for windows of so many centres.
 const SMALL: usize = 4_096;
 
 /// The refusals that each call can give.
-const NUMBERS: [&[usize]; 5] = [
+const NUMBERS: [&[usize]; 7] = [
     &[1, 2, 3, 4, 5, 6, 7, 8, 9],
-    &[2, 3, 4, 6, 7, 8, 9, 10, 11, 12, 13, 14, 15],
-    &[2, 3, 4, 6, 10, 11, 12, 13, 14, 15, 16],
-    &[2, 3, 4, 6, 10, 11, 12, 13, 14, 15, 16, 17],
-    &[2, 3, 4, 6, 10, 13, 14, 15, 17],
+    &[2, 3, 4, 6, 7, 8, 9, 10, 11, 12, 14, 15],
+    &[2, 3, 4, 6, 10, 11, 12, 14, 15, 16],
+    &[2, 3, 4, 6, 10, 11, 12, 14, 15, 16, 17],
+    &[2, 3, 4, 6, 10, 14, 15, 17],
+    &[2, 4, 6, 15, 20],
+    &[2, 4, 6, 15, 20],
 ];
 
 #[derive(Debug, Default, Clone)]
@@ -45,13 +55,12 @@ pub struct Counts {
     /// Searches by the reason after the last portion.
     pub reasons: [u64; 4],
     pub verdicts: [u64; 7],
-    /// By call and answer, 0 for accepted.
-    pub answers: [[u64; 18]; 5],
+    pub answers: Answers,
     /// Calls whose inputs have two faults or more.
     pub double_faults: u64,
     pub dirty_calls: u64,
     /// By the one fault of a world: worlds, and refusals of each call.
-    pub faults: BTreeMap<&'static str, (u64, [u64; 5])>,
+    pub faults: BTreeMap<&'static str, (u64, [u64; 7])>,
 }
 
 impl Counts {
@@ -60,7 +69,7 @@ impl Counts {
     }
 
     /// A world with one fault was called; `before` is what was answered before it.
-    pub fn fault(&mut self, name: &'static str, before: &[[u64; 18]; 5]) {
+    pub fn fault(&mut self, name: &'static str, before: &Answers) {
         let (worlds, refused) = self.faults.entry(name).or_default();
         *worlds += 1;
         for call in 0..CALLS.len() {
@@ -87,15 +96,15 @@ impl Counts {
         self.side_touches += u64::from(small && last.visited.iter().any(|set| count::touching_by_side(search, set) > 0));
     }
 
-    /// The calls of a large search. Its walls and reasons are printed by themselves and not held to anything here.
-    pub fn add_large(&mut self, large: &Self) {
-        for (answers, more) in self.answers.iter_mut().flatten().zip(large.answers.iter().flatten()) {
+    /// The calls of searches whose walls and reasons are printed by themselves and not held to anything here.
+    pub fn add_calls(&mut self, other: &Self) {
+        for (answers, more) in self.answers.iter_mut().flatten().zip(other.answers.iter().flatten()) {
             *answers += more;
         }
-        for (verdicts, more) in self.verdicts.iter_mut().zip(large.verdicts) {
+        for (verdicts, more) in self.verdicts.iter_mut().zip(other.verdicts) {
             *verdicts += more;
         }
-        self.dirty_calls += large.dirty_calls;
+        self.dirty_calls += other.dirty_calls;
     }
 
     /// What the small searches and the refusals fall short of; `whole` is the number of searches asked for.
@@ -127,7 +136,12 @@ impl Counts {
             }
         }
         for (name, (worlds, refused)) in &self.faults {
-            let most = *refused.iter().max().expect("five calls");
+            if *name == COUNTS_ABOVE_ONE {
+                hold(format!("steps over {name}"), worlds - refused[STEP], *worlds);
+                hold(format!("judgings over {name}"), worlds - refused[JUDGE], *worlds);
+                continue;
+            }
+            let most = *refused.iter().max().expect("seven calls");
             hold(format!("refusals of the fault {name}"), most, worlds.min(&50) / 2);
         }
         short
@@ -156,7 +170,7 @@ impl fmt::Display for Counts {
             }
             writeln!(f)?;
         }
-        writeln!(f, "worlds with one fault, and how many of them prepare, begin, step, read and judge refused:")?;
+        writeln!(f, "worlds with one fault, and how many of them prepare, begin, step, read, judge, cover and lift refused:")?;
         for (name, (worlds, refused)) in &self.faults {
             writeln!(f, "  {name}: {worlds}, {refused:?}")?;
         }

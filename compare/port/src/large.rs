@@ -58,12 +58,12 @@ fn one(name: &str, item: &Item, seed: u64, counts: &mut Counts) -> Result<Snapsh
         own.walls,
         own.routes
     );
-    counts.add_large(&own);
+    counts.add_calls(&own);
     Ok(last)
 }
 
 /// Columns of places from edge to edge, six in one and two and three in others, with gaps for the allowed mover alone.
-fn barrier(map: (u32, u32), window: Rect, seed: u64) -> Item {
+pub fn barrier(map: (u32, u32), window: Rect, seed: u64) -> Item {
     let mut rng = Rng::new(seed);
     let block = Bounds::new(3, 2, 2, 2);
     let (left, top, right, bottom) = (window.left, window.top, window.right, window.bottom);

@@ -4,7 +4,10 @@
 //! input found is printed and the exit code is 1; so it is where a count falls short of what it is held to.
 
 mod both;
+mod buildings;
+mod counted;
 mod counts;
+mod covers;
 mod large;
 mod medium;
 mod million;
@@ -62,6 +65,9 @@ fn run(seed: u64, searches: u64) -> Result<(), String> {
     refusals::run(seed, searches / 10, &mut counts, &progress)?;
     terrain::run(seed, searches / 2, &mut counts)?;
     progress("random terrain done");
+    counted::run(seed, searches / 8, &mut counts, &progress)?;
+    buildings::run(seed, searches, &mut counts)?;
+    progress("buildings covered and lifted");
     large::run(seed, &mut counts, &progress)?;
     million::run(&mut counts)?;
     progress("1,000,000 points done");
@@ -72,7 +78,8 @@ fn run(seed: u64, searches: u64) -> Result<(), String> {
 
 fn one(item: &list::Item, seed: u64, counts: &mut Counts) -> Result<(), String> {
     searches::run(item, seed, counts).map(drop).map_err(|difference| {
-        let (item, difference) = shrink::shrink(item, seed, difference);
+        let differs = |item: &list::Item| searches::run(item, seed, &mut Counts::default()).err();
+        let (item, difference) = shrink::shrink(item, difference, &differs);
         format!("DIFFERENCE {difference}\nseed of the areas {seed}\n{item:#?}")
     })
 }

@@ -1,10 +1,10 @@
-//! The port's five calls, over the values of `values`.
+//! The port's seven calls, over the values of `values`.
 
 use hitrovzen::raw;
 
-use crate::counts::{BEGIN, JUDGE, PREPARE, READ, STEP};
+use crate::counts::{BEGIN, COVER, JUDGE, LIFT, PREPARE, READ, STEP};
 use crate::spoil::Spoiler;
-use crate::values::{Inputs, Query, Store, Terrain, Word, Work};
+use crate::values::{Building, Inputs, Query, Store, Terrain, Word, Work};
 
 /// A call's answer and the index that goes with it.
 pub type Answer = (u32, u32);
@@ -124,4 +124,30 @@ pub fn judge(inputs: &Inputs, selection: &[u16], work: &mut Work) -> Judgement {
     spoil.number("ground", &mut ground);
     spoil.work(work);
     Judgement { answer: (answer, index), verdict, ground }
+}
+
+pub fn cover(building: &Building, baseline: &mut [u8]) -> u32 {
+    let Building { window, mover, rect } = building;
+    let mut answer = call!(@ hitrovzen_cover, ();
+        number window[0]; number window[1]; number window[2]; number window[3];
+        number mover[0]; number mover[1]; number mover[2]; number mover[3];
+        number rect[0]; number rect[1]; number rect[2]; number rect[3];
+        area baseline;);
+    let spoil = Spoiler::after(COVER, answer);
+    spoil.number("answer", &mut answer);
+    spoil.area("baseline", "past the baseline", baseline);
+    answer
+}
+
+pub fn lift(building: &Building, baseline: &mut [u8]) -> u32 {
+    let Building { window, mover, rect } = building;
+    let mut answer = call!(@ hitrovzen_lift, ();
+        number window[0]; number window[1]; number window[2]; number window[3];
+        number mover[0]; number mover[1]; number mover[2]; number mover[3];
+        number rect[0]; number rect[1]; number rect[2]; number rect[3];
+        area baseline;);
+    let spoil = Spoiler::after(LIFT, answer);
+    spoil.number("answer", &mut answer);
+    spoil.area("baseline", "past the baseline", baseline);
+    answer
 }

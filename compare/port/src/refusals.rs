@@ -1,21 +1,26 @@
-//! Calls with faults: a search in some state, one or two of its values altered, then all five calls. `rules` says what each
-//! answers; whatever it accepts is run by the original too.
+//! Calls with faults: a search in some state, one or two of its values altered, then all seven calls. `rules` and `covers` say what
+//! each answers; what `rules` accepts is run by the original too.
 
 use judge::generate::{Generator, Rng};
 use judge::{Baselines, Search};
 
 use crate::both;
-use crate::counts::{BEGIN, Counts, JUDGE, PREPARE, READ, STEP};
+use crate::buildings::near;
+use crate::counts::{BEGIN, COUNTS_ABOVE_ONE, COVER, Counts, JUDGE, LIFT, PREPARE, READ, STEP};
+use crate::covers::Change;
 use crate::searches::drawn;
-use crate::values::{Inputs, LIST_LENGTHS, MEMBERS, MORE, NEXTS, ROUTE_LENGTHS, ROW, Store, Terrain, Word, Work, clean, soil};
+use crate::values::{
+    Building, Inputs, LIST_LENGTHS, MEMBERS, MORE, NEXTS, Query, ROUTE_LENGTHS, ROW, Store, Terrain, Word, Work, clean, soil,
+};
 
-/// Everything that the five calls are lent.
+/// Everything that the seven calls are lent.
 #[derive(Debug, Clone)]
 pub struct World {
     terrain: Terrain,
-    /// Prepare's mover.
+    /// The mover and the baseline of prepare, cover and lift.
     mover: [u32; 4],
     baseline: Vec<u8>,
+    building: [i32; 4],
     inputs: Inputs,
     work: Work,
     store: Store,
@@ -44,7 +49,9 @@ const FAULTS: &[Fault] = &[
     ("prepare's baseline short", |world, rng| shorten(&mut world.baseline, rng)),
     ("blocked mover's baseline short", |world, rng| shorten(&mut world.inputs.block_base, rng)),
     ("allowed mover's baseline short", |world, rng| shorten(&mut world.inputs.allow_base, rng)),
-    ("baseline byte", baseline_byte),
+    (COUNTS_ABOVE_ONE, counts_above_one),
+    ("building", building),
+    ("counts at an end", counts_at_an_end),
     ("ground", ground),
     ("ground", ground),
     ("counts short", |world, rng| shorten(&mut world.work.counts, rng)),
@@ -156,6 +163,7 @@ impl World {
         let mover = if inputs.query.allow_given != 0 && rng.chance(1, 2) { inputs.query.allow } else { inputs.query.block };
         Some(Self {
             terrain: Terrain::of(&item.case),
+            building: near(inputs.query.window, rng),
             mover,
             baseline,
             work,
@@ -184,6 +192,11 @@ impl World {
         counts.answer(JUDGE, judged.err().unwrap_or(0));
         if let Ok(verdict) = judged {
             counts.verdicts[verdict as usize - 1] += 1;
+        }
+        let building = Building { window: self.inputs.query.window, mover: self.mover, rect: self.building };
+        for (call, change) in [(COVER, Change::Cover), (LIFT, Change::Lift)] {
+            let number = both::alter(change, &building, &mut self.baseline.clone())?;
+            counts.answer(call, number);
         }
         Ok(())
     }
@@ -365,24 +378,61 @@ fn shorten<T: Word>(area: &mut Vec<T>, rng: &mut Rng) {
     area.truncate(length);
 }
 
-fn baseline_byte(world: &mut World, rng: &mut Rng) {
+/// A count above 1 at one centre, or in place of every 1.
+fn counts_above_one(world: &mut World, rng: &mut Rng) {
     let base = if rng.chance(1, 2) { &mut world.inputs.block_base } else { &mut world.inputs.allow_base };
-    if !base.is_empty() {
+    if base.is_empty() {
+        return;
+    }
+    if rng.chance(1, 2) {
         let at = rng.below(base.len() as u32) as usize;
         base[at] = pick(&[2, 2, 128, 255], rng);
+        return;
+    }
+    for count in base.iter_mut().filter(|count| **count == 1) {
+        *count = pick(&[2, 2, 128, 255], rng);
+    }
+}
+
+/// A rectangle that is empty, inverted, or at the ends of 32 bits.
+fn building(world: &mut World, rng: &mut Rng) {
+    let [left, top, right, bottom] = world.building;
+    world.building = match rng.below(8) {
+        0 => [left, top, left, bottom],
+        1 => [left, top, right, top],
+        2 => [right, top, left, bottom],
+        3 => [left, bottom, right, top],
+        4 => [i32::MAX, i32::MAX, i32::MIN, i32::MIN],
+        5 => [i32::MIN, i32::MIN, i32::MAX, i32::MAX],
+        6 => [i32::MIN, top, i32::MIN + 1, bottom],
+        _ => [left, i32::MAX - 1, right, i32::MAX],
+    };
+}
+
+/// The baseline of cover and lift at 0 or at 255, everywhere or at some centres.
+fn counts_at_an_end(world: &mut World, rng: &mut Rng) {
+    let (end, of) = (pick(&[0, 255], rng), pick(&[1, 4, 40], rng));
+    for count in &mut world.baseline {
+        if rng.chance(1, of) {
+            *count = end;
+        }
     }
 }
 
 /// The start closed, the end closed, or a column or row, for one of the movers.
 fn ground(world: &mut World, rng: &mut Rng) {
-    let query = &world.inputs.query;
+    let base = if rng.chance(1, 2) { &mut world.inputs.block_base } else { &mut world.inputs.allow_base };
+    close(&world.inputs.query, base, rng.below(4), pick(&[1, 1, 2, 255], rng));
+}
+
+/// Closes the start (kind 0), the end (1), the middle column (2) or the middle row (any other) by a count; the last two leave the ends
+/// open.
+pub fn close(query: &Query, base: &mut [u8], kind: u32, count: u8) {
     let [left, top, right, bottom] = query.window.map(i64::from);
     let at = |[x, y]: [u32; 2]| (i128::from(i64::from(y) - top) * i128::from(right - left) + i128::from(i64::from(x) - left)) as usize;
     let (start, end) = (at(query.start), at(query.end));
     let width = (right - left).max(1) as usize;
     let (column, line) = (width / 2, ((bottom - top).max(1) / 2) as usize);
-    let base = if rng.chance(1, 2) { &mut world.inputs.block_base } else { &mut world.inputs.allow_base };
-    let kind = rng.below(4);
     for (centre, byte) in base.iter_mut().enumerate() {
         let closed = match kind {
             0 => centre == start,
@@ -390,8 +440,8 @@ fn ground(world: &mut World, rng: &mut Rng) {
             2 => centre % width == column && centre != start && centre != end,
             _ => centre / width == line && centre != start && centre != end,
         };
-        if closed && *byte <= 1 {
-            *byte = 1;
+        if closed && *byte == 0 {
+            *byte = count;
         }
     }
 }

@@ -1,5 +1,5 @@
 //! The refusals and verdicts of docs/RULES.md, 7 and 8, read from the rules alone: this module shares no code with the judge's `domain`.
-//! Routes and covers (7 to 9, and the verdicts' parts) are the original's.
+//! Routes and what a set blocks (7 to 9, and the verdicts' parts) are the original's. Cover and lift are read in `covers`.
 
 use judge::walls::search::{WallSearch, probe};
 use judge::{Mover, Rect};
@@ -90,7 +90,7 @@ fn places(inputs: &Inputs) -> usize {
     whole + usize::from(left_over)
 }
 
-/// 10, 11, 12, 2, 3, 4, 6, 13.
+/// 10, 11, 12, 2, 3, 4, 6. What a baseline's bytes hold is not looked at: any count is taken.
 fn before_routes(inputs: &Inputs, taken: Taken) -> Turned {
     let slots: u64 = inputs.groups.iter().map(|&count| u64::from(count)).sum();
     need(inputs.groups.len() <= 6 && !inputs.groups.contains(&0) && slots <= 6, 10)?;
@@ -117,8 +117,7 @@ fn before_routes(inputs: &Inputs, taken: Taken) -> Turned {
         need(store.layouts.len() >= 7 * inputs.results as usize, 6)?;
         need(!allowing || store.points.len() >= points, 6)?;
     }
-    need(!inputs.block_base[..centres].iter().any(|&byte| byte > 1), 13)?;
-    need(!allowing || !inputs.allow_base[..centres].iter().any(|&byte| byte > 1), 13)
+    Ok(())
 }
 
 /// 14 and 15.

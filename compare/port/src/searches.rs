@@ -12,31 +12,30 @@ use crate::values::{Inputs, Query, Store, Terrain, Work, clean, soil};
 /// Runs an item; what is drawn comes from `seed`. What the search holds at last, or nothing where prepare refuses.
 pub fn run(item: &Item, seed: u64, counts: &mut Counts) -> Result<Option<Snapshot>, Difference> {
     let mut rng = Rng::new(seed);
-    let query = Query::of(&item.case);
-    let mut work = Work::clean(&query);
-    let (block, allow) = match &item.given {
-        Some(given) => (Some(given.block.clone()), given.allow.clone()),
-        None => {
-            let block = prepared(item, Mover::Block, &query, &mut work, &mut rng, counts)?;
-            let allow = match item.case.allow {
-                None => None,
-                Some(_) => match prepared(item, Mover::Allow, &query, &mut work, &mut rng, counts)? {
-                    None => {
-                        counts.refused += 1;
-                        return Ok(None);
-                    }
-                    allow => allow,
-                },
-            };
-            (block, allow)
-        }
+    let mut work = Work::clean(&Query::of(&item.case));
+    let Some(inputs) = inputs(item, &mut work, &mut rng, counts)? else {
+        return Ok(None);
     };
-    let Some(block) = block else {
+    let searched = search(item, &inputs, &mut work, &mut rng, counts)?;
+    searched.map(Some).map_err(|number| format!("begin refuses a search of the list with {number}"))
+}
+
+/// An item's inputs over the baselines given, or over those that both sides make; nothing where both refuse to.
+pub fn inputs(item: &Item, work: &mut Work, rng: &mut Rng, counts: &mut Counts) -> Result<Option<Inputs>, Difference> {
+    if let Some(given) = &item.given {
+        return Ok(Some(Inputs::of(&item.case, &given.block, given.allow.as_deref())));
+    }
+    let query = Query::of(&item.case);
+    let block = prepared(item, Mover::Block, &query, work, rng, counts)?;
+    let allow = match item.case.allow {
+        Some(_) => Some(prepared(item, Mover::Allow, &query, work, rng, counts)?),
+        None => None,
+    };
+    let (Some(block), Some(allow)) = (block, allow.map_or(Some(None), |made| made.map(Some))) else {
         counts.refused += 1;
         return Ok(None);
     };
-    let inputs = Inputs::of(&item.case, &block, allow.as_deref());
-    search(item, &inputs, work, &mut rng, counts).map(Some)
+    Ok(Some(Inputs::of(&item.case, &block, allow.as_deref())))
 }
 
 /// The baseline that both sides make, or nothing where both refuse.
@@ -66,7 +65,14 @@ fn dirty(work: &mut Work, rng: &mut Rng, counts: &mut Counts) {
     }
 }
 
-fn search(item: &Item, inputs: &Inputs, mut work: Work, rng: &mut Rng, counts: &mut Counts) -> Result<Snapshot, Difference> {
+/// Begins, steps, reads and judges. What the search holds at last, or begin's refusal.
+pub fn search(
+    item: &Item,
+    inputs: &Inputs,
+    work: &mut Work,
+    rng: &mut Rng,
+    counts: &mut Counts,
+) -> Result<Result<Snapshot, u32>, Difference> {
     let needs = inputs.needs();
     let mut store = Store::clean(needs);
     store.soil(needs, rng);
@@ -77,28 +83,31 @@ fn search(item: &Item, inputs: &Inputs, mut work: Work, rng: &mut Rng, counts: &
             both::original(inputs, &store)?
         }
         None => {
-            dirty(&mut work, rng, counts);
-            let begun = both::begin(inputs, &mut store, &mut work)?;
+            dirty(work, rng, counts);
+            let begun = both::begin(inputs, &mut store, work)?;
             counts.answer(BEGIN, begun.as_ref().err().copied().unwrap_or(0));
-            begun.map_err(|number| format!("begin refuses a search of the list with {number}"))?
+            match begun {
+                Ok(search) => search,
+                Err(number) => return Ok(Err(number)),
+            }
         }
     };
     let mut last = search.snapshot();
     for &portion in &item.portions {
-        dirty(&mut work, rng, counts);
+        dirty(work, rng, counts);
         if rng.chance(1, 4) {
             store.soil_unused(&last, needs, rng);
         }
-        let stepped = both::step(inputs, &mut store, portion, &mut work, Some(&mut search))?;
+        let stepped = both::step(inputs, &mut store, portion, work, Some(&mut search))?;
         counts.answer(STEP, stepped.as_ref().err().copied().unwrap_or(0));
         last = stepped.map_err(|number| format!("step refuses a search of the list with {number}"))?;
         read(inputs, &store, &last, rng, counts)?;
     }
-    judge(inputs, &search, &last, &mut work, rng, counts)?;
+    judge(inputs, Some(&search), selections(inputs, &last, rng), work, rng, counts)?;
     if item.held.is_none() {
         counts.search(&search, &last);
     }
-    Ok(last)
+    Ok(Ok(last))
 }
 
 /// Reads up to three layouts, the last one always, and at times one that is not listed.
@@ -116,8 +125,8 @@ fn read(inputs: &Inputs, store: &Store, last: &Snapshot, rng: &mut Rng, counts: 
     Ok(())
 }
 
-/// Judges a drawn selection, an evaluated set, and a wall with and without one more member.
-fn judge(inputs: &Inputs, search: &Search, last: &Snapshot, work: &mut Work, rng: &mut Rng, counts: &mut Counts) -> Result<(), Difference> {
+/// A drawn selection, an evaluated set, and a wall with and without one more member.
+fn selections(inputs: &Inputs, last: &Snapshot, rng: &mut Rng) -> Vec<Vec<u16>> {
     let places = inputs.places() as u32;
     let mut selections = vec![drawn(places, rng)];
     if !last.visited.is_empty() {
@@ -130,9 +139,21 @@ fn judge(inputs: &Inputs, search: &Search, last: &Snapshot, work: &mut Work, rng
         more.sort_unstable();
         selections.extend([wall, more]);
     }
+    selections
+}
+
+/// Judges them; `search` is the original's, made from the inputs where there is none at hand.
+pub fn judge(
+    inputs: &Inputs,
+    search: Option<&Search>,
+    selections: Vec<Vec<u16>>,
+    work: &mut Work,
+    rng: &mut Rng,
+    counts: &mut Counts,
+) -> Result<(), Difference> {
     for selection in selections {
         dirty(work, rng, counts);
-        let judged = both::judge(inputs, &selection, work, Some(search))?;
+        let judged = both::judge(inputs, &selection, work, search)?;
         counts.answer(JUDGE, judged.err().unwrap_or(0));
         if let Ok(verdict) = judged {
             counts.verdicts[verdict as usize - 1] += 1;

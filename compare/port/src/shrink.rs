@@ -2,19 +2,14 @@
 
 use judge::list::Item;
 
-use crate::counts::Counts;
-use crate::searches;
+use crate::both::Difference;
 
-fn differs(item: &Item, seed: u64) -> Option<String> {
-    searches::run(item, seed, &mut Counts::default()).err()
-}
-
-/// The smallest item found, and its difference.
-pub fn shrink(item: &Item, seed: u64, difference: String) -> (Item, String) {
+/// The smallest item found that `differs` tells a difference of, and that difference.
+pub fn shrink(item: &Item, difference: Difference, differs: &dyn Fn(&Item) -> Option<Difference>) -> (Item, Difference) {
     let mut best = (item.clone(), difference);
     'again: loop {
         for smaller in smaller(&best.0) {
-            if let Some(difference) = differs(&smaller, seed) {
+            if let Some(difference) = differs(&smaller) {
                 best = (smaller, difference);
                 continue 'again;
             }

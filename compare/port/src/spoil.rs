@@ -4,7 +4,8 @@ use std::cell::Cell;
 
 use judge::generate::Generator;
 
-use crate::counts::{BEGIN, CALLS, Counts, JUDGE, PREPARE, READ, STEP};
+use crate::buildings;
+use crate::counts::{BEGIN, CALLS, COVER, Counts, JUDGE, LIFT, PREPARE, READ, STEP};
 use crate::refusals;
 use crate::searches;
 use crate::values::{Store, Word, Work};
@@ -100,6 +101,8 @@ pub fn run(seed: u64) -> Result<usize, String> {
     all(STEP, &["answer", "index"]);
     all(READ, &["answer", "index", "first", "count"]);
     all(JUDGE, &["answer", "index", "verdict", "ground"]);
+    all(COVER, &["answer", "baseline", "past the baseline"]);
+    all(LIFT, &["answer", "baseline", "past the baseline"]);
     for call in [PREPARE, BEGIN, STEP, JUDGE] {
         all(call, &WORK);
     }
@@ -108,7 +111,7 @@ pub fn run(seed: u64) -> Result<usize, String> {
     }
     for &value in &values {
         SPOILT.set(Some(value));
-        let found = found(seed, value.refused);
+        let found = found(seed, value);
         SPOILT.set(None);
         if !found {
             return Err(format!("{} of {} altered, refused: {}, and nothing shows it", value.what, CALLS[value.call], value.refused));
@@ -117,11 +120,14 @@ pub fn run(seed: u64) -> Result<usize, String> {
     Ok(values.len())
 }
 
-/// Whether one of the first searches differs, or one of the first altered ones.
-fn found(seed: u64, refused: bool) -> bool {
+/// Whether one of the first searches differs, or one of the first altered ones, or one of the first buildings.
+fn found(seed: u64, value: Value) -> bool {
     let mut generator = Generator::new(seed);
-    if refused {
+    if value.refused {
         return refusals::run(seed, 100, &mut Counts::default(), &|_| ()).is_err();
+    }
+    if value.call == COVER || value.call == LIFT {
+        return buildings::calls(seed, 200, &mut Counts::default()).is_err();
     }
     (0..200).any(|number| searches::run(&generator.item(), seed ^ number, &mut Counts::default()).is_err())
 }
@@ -130,6 +136,7 @@ fn found(seed: u64, refused: bool) -> bool {
 mod tests {
     use super::*;
     use crate::shrink::shrink;
+    use judge::list::Item;
 
     /// A record that every step spoils differs in the smallest search too.
     #[test]
@@ -145,7 +152,8 @@ mod tests {
             .expect("an endless row");
         SPOILT.set(Some(Value { call: STEP, refused: false, what: "record" }));
         let difference = searches::run(&item, 1, &mut Counts::default()).expect_err("a spoilt record");
-        let (smallest, difference) = shrink(&item, 1, difference);
+        let differs = |item: &Item| searches::run(item, 1, &mut Counts::default()).err();
+        let (smallest, difference) = shrink(&item, difference, &differs);
         SPOILT.set(None);
         assert!(difference.contains("record[0]"), "{difference}");
         assert_eq!((smallest.case.placements.len(), smallest.portions.len()), (0, 1));

@@ -72,6 +72,14 @@ pub struct Query {
     pub allow: [u32; 4],
 }
 
+/// What cover and lift take besides the baseline.
+#[derive(Debug, Clone, Copy)]
+pub struct Building {
+    pub window: [i32; 4],
+    pub mover: [u32; 4],
+    pub rect: [i32; 4],
+}
+
 #[derive(Debug, Clone)]
 pub struct Inputs {
     pub query: Query,
@@ -176,6 +184,15 @@ impl Inputs {
         }
     }
 
+    /// The movers that are there, each with its baseline.
+    pub fn grounds(&mut self) -> Vec<([u32; 4], &mut [u8])> {
+        let mut grounds = vec![(self.query.block, &mut self.block_base[..])];
+        if self.query.allow_given != 0 {
+            grounds.push((self.query.allow, &mut self.allow_base[..]));
+        }
+        grounds
+    }
+
     /// The number of placements where none is left over in part.
     pub fn places(&self) -> usize {
         self.numbers.len() / 4
@@ -219,9 +236,10 @@ impl Inputs {
         }
     }
 
+    /// The baselines as the original takes them: a centre is closed where its count is not zero.
     pub fn baselines(&self) -> judge::Baselines {
         let (width, height) = self.query.size();
-        let marked = |bytes: &[u8]| bytes[..width * height].iter().map(|&byte| byte == 1).collect();
+        let marked = |counts: &[u8]| counts[..width * height].iter().map(|&count| count != 0).collect();
         judge::Baselines { block: marked(&self.block_base), allow: (self.query.allow_given != 0).then(|| marked(&self.allow_base)) }
     }
 }

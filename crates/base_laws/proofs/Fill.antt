@@ -2,16 +2,16 @@
 -- copying reads f off another area.
 use mathlib.Core.Path.{_≡_, refl, sym, ap, subst, _∙_}
 use mathlib.Core.List.{List, [], _∷_, _++_, map}
-use Prim.Native.Nat.{ℕ, zero, suc, _+_, _≤_, _<_}
+use Prim.Native.Nat.{ℕ, zero, suc, _+_, _-_, _≤_, _<_}
 use native.Mathlib.Numerals.{add-one}
 use native.Mathlib.Omega.{arith}
-use lib.ListN.{length, getD, set, take, drop, replicate, length-drop, length-set, take-append-drop}
-use lib.Seq.{drop-cons, length-take-le}
+use lib.ListN.{length, getD, set, take, drop, replicate, length-append, length-drop, length-set, take-append-drop, List·getD-append}
+use lib.Seq.{drop-at, drop-cons, getD-append-add, getD-drop, getD-take, length-take-le}
 use Rattle.base_laws.specs.Lists.{span, below}
 use Rattle.base_laws.specs.Fill.{over, filled, filledFrom, FillingFrom, Filling}
 use Rattle.base_laws.proofs.Lists.{map-getD}
 use Rattle.base_laws.proofs.Stores.{over-part}
-use Rattle.base_laws.proofs.Tables.{length-table, table-same}
+use Rattle.base_laws.proofs.Tables.{length-table, table-at, table-is, table-same}
 
 module _ {A : Type 0} where
   -- ---- the loop
@@ -85,6 +85,38 @@ module _ {A : Type 0} where
   pub filled-const : (a : A) (n : ℕ) (v : List A) → filled (λ (i : ℕ). a) n v ≡ replicate n a ++ drop n v
   unfolding filled below
   filled-const a n v = ap (λ (l : List A). l ++ drop n v) (const-from a 0 n)
+
+  -- ---- what stands where
+  module _ (f : ℕ → A) (n : ℕ) (v : List A) where
+    pub filled-length : n ≤ length v → length (filled f n v) ≡ length v
+    unfolding filled
+    filled-length room = omega (arith, length-append (map f (below n)) (drop n v), length-table f n, length-drop n v)
+
+    pub filled-at : (i : ℕ) (d : A) → i < n → getD (filled f n v) i d ≡ f i
+    unfolding filled
+    filled-at i d h = List·getD-append (map f (below n)) (drop n v) d i (omega (arith, length-table f n)) ∙ table-at f n i d h
+
+    pub filled-past : (i : ℕ) (d : A) → n ≤ i → getD (filled f n v) i d ≡ getD v i d
+    unfolding filled
+    filled-past i d h =
+        let e : i ≡ length (map f (below n)) + (i - n) = omega (arith, length-table f n) in
+        let k : n + (i - n) ≡ i = omega arith in
+        ap (λ (j : ℕ). getD (map f (below n) ++ drop n v) j d) e
+        ∙ getD-append-add (map f (below n)) (drop n v) (i - n) d
+        ∙ getD-drop n v (i - n) d
+        ∙ ap (λ (j : ℕ). getD v j d) k
+
+    -- filled again, nothing is left of the first filling
+    pub filled-again : (g : ℕ → A) → filled g n (filled f n v) ≡ filled g n v
+    unfolding filled
+    filled-again g = ap (λ (l : List A). map g (below n) ++ l) (drop-at (map f (below n)) (drop n v) n (length-table f n))
+
+  -- filled with its own entries
+  pub filled-own : (n : ℕ) (v : List A) (d : A) → n ≤ length v → filled (λ (i : ℕ). getD v i d) n v ≡ v
+  unfolding filled
+  filled-own n v d room =
+      ap (λ (l : List A). l ++ drop n v) (sym (table-is (λ (i : ℕ). getD v i d) n d (take n v) (length-take-le n v room) (λ i h. getD-take n v i d h)))
+      ∙ take-append-drop n v
 
 module _ {A B : Type 0} where
   copy-from : (g : A → B) (s : List A) (d : A) (k n : ℕ) → k + n ≤ length s → map (λ (i : ℕ). g (getD s i d)) (span k n) ≡ map g (take n (drop k s))

@@ -17,11 +17,12 @@ use Rattle.base_model.specs.declared.Refusal.the-variants.{
   GroupsInvalid,
   StateLimitInvalid,
   ResultLimitInvalid,
-  BaselineInvalid,
   TooManyPlacements,
   PlacementInvalid,
+  RectangleEmpty,
   RecordInvalid,
   SelectionInvalid,
+  CountOutOfRange,
 }
 use Rattle.base_model.specs.declared.Answer.the-variants.{Done, Refused}
 use Rattle.base_model.specs.Answers.{refusal, saidOf, replyOf}
@@ -41,12 +42,13 @@ refusals =
     ∷ (GroupsInvalid, 10, [])
     ∷ (StateLimitInvalid, 11, [])
     ∷ (ResultLimitInvalid, 12, [])
-    ∷ (BaselineInvalid, 13, [])
     ∷ (TooManyPlacements, 14, [])
     ∷ (PlacementInvalid 0, 15, 0 ∷ [])
     ∷ (PlacementInvalid 7, 15, 7 ∷ [])
+    ∷ (RectangleEmpty, 15, [])
     ∷ (RecordInvalid, 16, [])
     ∷ (SelectionInvalid, 17, [])
+    ∷ (CountOutOfRange, 20, [])
     ∷ []
 
 pub said : map (λ (r : Refusal × ℕ × List ℕ). saidOf (r .0)) refusals ≡ map (λ (r : Refusal × ℕ × List ℕ). record { number = r .1; values = r .2 }) refusals

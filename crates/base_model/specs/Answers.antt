@@ -18,11 +18,12 @@ use Rattle.base_model.specs.declared.Refusal.the-variants.{
   GroupsInvalid,
   StateLimitInvalid,
   ResultLimitInvalid,
-  BaselineInvalid,
   TooManyPlacements,
   PlacementInvalid,
+  RectangleEmpty,
   RecordInvalid,
   SelectionInvalid,
+  CountOutOfRange,
 }
 use Rattle.base_model.specs.declared.Answer.{Answer}
 use Rattle.base_model.specs.declared.Answer.the-variants.{Done, Refused}
@@ -46,7 +47,7 @@ unfoldable pub first : List (Option Said) → Option Said
 first [] = none
 first (c ∷ cs) = elim c [ none ↦ first cs | some r ↦ some r ]
 
--- the number and values of RULES 8.1 for each refusal of the code
+-- the number and values of RULES 8.1 for each refusal of the code; 13 is out of use
 unfoldable pub saidOf : Refusal → Said
 saidOf MapInvalid = refusal 1
 saidOf WindowInvalid = refusal 2
@@ -60,11 +61,12 @@ saidOf NoRoute = refusal 9
 saidOf GroupsInvalid = refusal 10
 saidOf StateLimitInvalid = refusal 11
 saidOf ResultLimitInvalid = refusal 12
-saidOf BaselineInvalid = refusal 13
 saidOf TooManyPlacements = refusal 14
 saidOf (PlacementInvalid i) = record { number = 15; values = i ∷ [] }
+saidOf RectangleEmpty = refusal 15
 saidOf RecordInvalid = refusal 16
 saidOf SelectionInvalid = refusal 17
+saidOf CountOutOfRange = refusal 20
 
 -- none where the call is accepted
 unfoldable pub replyOf : Answer → Option Said

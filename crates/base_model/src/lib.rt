@@ -144,12 +144,13 @@ pub enum Refusal {
     GroupsInvalid,
     StateLimitInvalid,
     ResultLimitInvalid,
-    BaselineInvalid,
     TooManyPlacements,
     // with the index of the first such placement
     PlacementInvalid(u32),
+    RectangleEmpty,
     RecordInvalid,
     SelectionInvalid,
+    CountOutOfRange,
 }
 
 // The answer of a call that leaves its result in the areas.
@@ -195,7 +196,7 @@ pub fn member(n: u16) -> usize
     n as usize
 }
 
-// The number of a refusal.
+// The number of a refusal. 13 is out of use.
 pub fn refusal_number(refusal: Refusal) -> u32
     ensures { λ r. ⌜ r ≡ saidOf refusal .number ⌝ }
 {
@@ -212,11 +213,12 @@ pub fn refusal_number(refusal: Refusal) -> u32
         Refusal::GroupsInvalid => 10,
         Refusal::StateLimitInvalid => 11,
         Refusal::ResultLimitInvalid => 12,
-        Refusal::BaselineInvalid => 13,
         Refusal::TooManyPlacements => 14,
         Refusal::PlacementInvalid(_) => 15,
+        Refusal::RectangleEmpty => 15,
         Refusal::RecordInvalid => 16,
         Refusal::SelectionInvalid => 17,
+        Refusal::CountOutOfRange => 20,
     }
 }
 

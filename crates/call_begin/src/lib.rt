@@ -88,8 +88,8 @@ fn begin_checked(
     }
 }
 
-// Begins a search: its record, and its areas zero up to their lengths. Refuses 10, 11, 12, 2, 3, 4, 6, 13, then 7, 8, 9 for the blocked
-// mover and for the allowed, then 14, 15. The first eight write nothing; the others leave the working areas zero up to their lengths.
+// Begins a search: its record, and its areas zero up to their lengths. Refuses 10, 11, 12, 2, 3, 4, 6, then 7, 8, 9 for the blocked
+// mover and for the allowed, then 14, 15. The first seven write nothing; the others leave the working areas zero up to their lengths.
 pub fn begin(
     query: Query,
     limits: Limits,

@@ -14,8 +14,8 @@ use Rattle.ground_rects.specs.Rects.{small}
 use Rattle.ground_rects.specs.Windows.{centres, windowFits, inWindow}
 use Rattle.rule_layouts.specs.Inputs.{Inputs}
 use Rattle.rule_calls.specs.Areas.{basesFit}
-use Rattle.rule_calls.specs.Checks.{groupChecks, moversSmall, bytesFit, limitChecks, queryChecks}
-use Rattle.call_checks.specs.Parts.{groupsFit, allowSmall, allowLong, bytesTo, allowBytes, framesOf, frameChecks, areasOf, areaChecks}
+use Rattle.rule_calls.specs.Checks.{groupChecks, moversSmall, limitChecks, queryChecks}
+use Rattle.call_checks.specs.Parts.{groupsFit, allowSmall, allowLong, framesOf, frameChecks, areasOf, areaChecks}
 
 -- ---- lists of checks, one after another
 pub first-then : (xs ys : List (Option Said)) → first xs ≡ none → first (xs ++ ys) ≡ first ys
@@ -32,7 +32,7 @@ first-stops (some q ∷ xs) ys r e = e
 
 -- ---- the parts
 pub query-parts : (i : Inputs) (long : Bool) → queryChecks i long ≡ frameChecks i ++ areaChecks i long
-unfolding queryChecks frameChecks framesOf areaChecks areasOf moversSmall allowSmall basesFit allowLong bytesFit bytesTo allowBytes
+unfolding queryChecks frameChecks framesOf areaChecks areasOf moversSmall allowSmall basesFit allowLong
 query-parts i long = refl
 
 -- ---- 10
@@ -87,7 +87,7 @@ module _ (i : Inputs) (q : Query) (e : i .query ≡ q) where
       unfolding framesOf ask first
       frames-pass h = (rw (w, s, h)) ∙ frames-are
 
--- ---- 6 and 13
+-- ---- 6
 module _ (i : Inputs) (q : Query) (b a : List ℕ) (long : Bool) (n : ℕ) (e : i .query ≡ q) (f : i .blockBase ≡ b) (g : i .allowBase ≡ a) (k : n ≡ centres (q .window)) where
   areas-are : first (areasOf n (q .allow) b a long) ≡ first (areaChecks i long)
   unfolding areaChecks
@@ -107,15 +107,6 @@ module _ (i : Inputs) (q : Query) (b a : List ℕ) (long : Bool) (n : ℕ) (e : 
       unfolding areasOf ask first
       others-short o = (rw (le-leb n (length b) h, l, o)) ∙ areas-are
 
-      module _ (o : long ≡ true) where
-        pub block-spoilt : bytesTo n b ≡ false → some (refusal 13) ≡ first (areaChecks i long)
-        unfolding areasOf ask first
-        block-spoilt y = (rw (le-leb n (length b) h, l, o, y)) ∙ areas-are
-
-        pub allow-spoilt : bytesTo n b ≡ true → allowBytes n (q .allow) a ≡ false → some (refusal 13) ≡ first (areaChecks i long)
-        unfolding areasOf ask first
-        allow-spoilt y z = (rw (le-leb n (length b) h, l, o, y, z)) ∙ areas-are
-
-        pub areas-pass : bytesTo n b ≡ true → allowBytes n (q .allow) a ≡ true → none ≡ first (areaChecks i long)
-        unfolding areasOf ask first
-        areas-pass y z = (rw (le-leb n (length b) h, l, o, y, z)) ∙ areas-are
+      pub areas-pass : long ≡ true → none ≡ first (areaChecks i long)
+      unfolding areasOf ask first
+      areas-pass o = (rw (le-leb n (length b) h, l, o)) ∙ areas-are

@@ -23,7 +23,7 @@ use Rattle.rule_layouts.specs.Inputs.{Inputs}
 use Rattle.rule_calls.specs.Areas.{Work, Store, workFits, storeFits}
 use Rattle.rule_calls.specs.Checks.{groupChecks, limitChecks}
 use Rattle.rule_calls.specs.Calls.{beginChecks}
-use Rattle.call_checks.specs.Parts.{allowSmall, allowLong, bytesTo, allowBytes, framesOf, frameChecks, areasOf, areaChecks}
+use Rattle.call_checks.specs.Parts.{allowSmall, allowLong, framesOf, frameChecks, areasOf, areaChecks}
 use Rattle.call_checks.proofs.Asked.{first-then, first-stops, query-parts}
 
 -- ---- an answer of the code as one of the definitions'
@@ -98,8 +98,6 @@ pub record Spacious (i : Inputs) (long : Bool) : Type 0 where
   pub block : centres (i .query .window) ≤ length (i .blockBase)
   pub allow : allowLong (centres (i .query .window)) (i .query .allow) (length (i .allowBase)) ≡ true
   pub others : long ≡ true
-  pub blockBytes : bytesTo (centres (i .query .window)) (i .blockBase) ≡ true
-  pub allowedBytes : allowBytes (centres (i .query .window)) (i .query .allow) (i .allowBase) ≡ true
 
 pub areas-found : (i : Inputs) (long : Bool) → first (areaChecks i long) ≡ none → Spacious i long
 unfolding areaChecks areasOf
@@ -107,13 +105,9 @@ areas-found i long e =
     let n = centres (i .query .window) in
     let b = leb n (length (i .blockBase)) in
     let a = allowLong n (i .query .allow) (length (i .allowBase)) in
-    let y = bytesTo n (i .blockBase) in
-    let z = allowBytes n (i .query .allow) (i .allowBase) in
-    let p = first-passes (ask 6 (b && a && long)) (ask 13 (y && z) ∷ []) e in
-    let q = both (b && a) long (ask-passes 6 (b && a && long) (p .0)) in
+    let q = both (b && a) long (ask-passes 6 (b && a && long) (first-passes (ask 6 (b && a && long)) [] e .0)) in
     let r = both b a (q .0) in
-    let t = both y z (ask-passes 13 (y && z) (first-passes (ask 13 (y && z)) [] (p .1) .0)) in
-    record { block = leb-true n (length (i .blockBase)) (r .0); allow = r .1; others = q .1; blockBytes = t .0; allowedBytes = t .1 }
+    record { block = leb-true n (length (i .blockBase)) (r .0); allow = r .1; others = q .1 }
 
 -- ---- begin's checks
 module _ (i : Inputs) (l : Limits) (w : Work) (s : Store) where

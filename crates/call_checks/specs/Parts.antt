@@ -6,7 +6,7 @@ use mathlib.Core.Option.{Option}
 use mathlib.Core.List.{List, [], _∷_}
 use lib.Dec.{leb}
 use lib.IntN.{ℤ}
-use lib.ListN.{length, take, getD}
+use lib.ListN.{length, getD}
 use Rattle.base_laws.specs.Lists.{allOf, total}
 use Rattle.base_model.specs.Answers.{Said, ask}
 use Rattle.base_model.specs.declared.Rect.{Rect}
@@ -32,13 +32,6 @@ allowSmall a = elim a [ Nobody ↦ true | Bounded m ↦ small m ]
 unfoldable pub allowLong : ℕ → Allow → ℕ → Bool
 allowLong n a base = elim a [ Nobody ↦ true | Bounded m ↦ leb n base ]
 
--- none of the first n bytes is above 1
-unfoldable pub bytesTo : ℕ → List ℕ → Bool
-bytesTo n base = allOf (λ (b : ℕ). leb b 1) (take n base)
-
-unfoldable pub allowBytes : ℕ → Allow → List ℕ → Bool
-allowBytes n a base = elim a [ Nobody ↦ true | Bounded m ↦ bytesTo n base ]
-
 -- 2, 3 and 4
 unfoldable pub framesOf : Query → List (Option Said)
 framesOf q =
@@ -50,10 +43,9 @@ framesOf q =
 unfoldable pub frameChecks : Inputs → List (Option Said)
 frameChecks i = framesOf (i .query)
 
--- 6 and 13, with n centres
+-- 6, with n centres
 unfoldable pub areasOf : (n : ℕ) → Allow → (blockBase allowBase : List ℕ) → (long : Bool) → List (Option Said)
-areasOf n allow blockBase allowBase long =
-    ask 6 (leb n (length blockBase) && allowLong n allow (length allowBase) && long) ∷ ask 13 (bytesTo n blockBase && allowBytes n allow allowBase) ∷ []
+areasOf n allow blockBase allowBase long = ask 6 (leb n (length blockBase) && allowLong n allow (length allowBase) && long) ∷ []
 
 unfoldable pub areaChecks : Inputs → (long : Bool) → List (Option Said)
 areaChecks i long = areasOf (centres (i .query .window)) (i .query .allow) (i .blockBase) (i .allowBase) long

@@ -34,7 +34,7 @@ ghost use Rattle.rule_calls.specs.Areas.{Work, Store, workFits, storeFits};
 ghost use Rattle.rule_calls.specs.Calls.{beginChecks};
 ghost use Rattle.call_lengths.specs.Lengths.{WorkHas, StoreHas};
 ghost use Rattle.rule_calls.specs.Checks.{groupChecks, limitChecks, placementFits, placeChecks};
-ghost use Rattle.call_checks.specs.Parts.{groupsFit, allowSmall, allowLong, bytesTo, allowBytes, frameChecks, areaChecks, Misplaced};
+ghost use Rattle.call_checks.specs.Parts.{groupsFit, allowSmall, allowLong, frameChecks, areaChecks, Misplaced};
 
 // The bounds of slots and of listed layouts, as the numbers of 32 bits that they are compared with.
 const MOST_SLOTS: u32 = SLOTS as u32;
@@ -154,33 +154,7 @@ fn allow_long(n: usize, allow: Allow, base: usize) -> bool
     }
 }
 
-// Whether none of the first n bytes is above 1.
-fn bytes_fit(n: usize, base: &[u8]) -> bool
-    requires { ⌜ n ≤ length (now base) ⌝ }
-    ensures { λ r. ⌜ r ≡ bytesTo n (now (base .entry)) ⌝ }
-{
-    let mut i = 0;
-    while i < n {
-        if base[i] > 1 {
-            return false;
-        }
-        i += 1;
-    }
-    true
-}
-
-// Whether the allowed mover's baseline, if there is one, has no byte above 1.
-fn allow_bytes(n: usize, allow: Allow, base: &[u8]) -> bool
-    requires { ⌜ allowLong n allow (length (now base)) ≡ true ⌝ }
-    ensures { λ r. ⌜ r ≡ allowBytes n allow (now (base .entry)) ⌝ }
-{
-    match allow {
-        Allow::Nobody => true,
-        Allow::Bounded(_) => bytes_fit(n, base),
-    }
-}
-
-// 6 and 13. The call takes other areas too: `long` says whether they are long enough.
+// 6. The call takes other areas too: `long` says whether they are long enough.
 pub fn check_areas(query: Query, block_base: &[u8], allow_base: &[u8], long: bool) -> Answer
     requires { ⌜ windowFits 8192 8192 (query .window) ≡ true ⌝ }
     ensures { λ r. ⌜ ((i : Inputs) → i .query ≡ query → i .blockBase ≡ now («block_base» .entry) → i .allowBase ≡ now («allow_base» .entry)
@@ -196,12 +170,6 @@ pub fn check_areas(query: Query, block_base: &[u8], allow_base: &[u8], long: boo
     }
     if !long {
         return Answer::Refused(Refusal::AreaTooShort);
-    }
-    if !bytes_fit(n, block_base) {
-        return Answer::Refused(Refusal::BaselineInvalid);
-    }
-    if !allow_bytes(n, allow, allow_base) {
-        return Answer::Refused(Refusal::BaselineInvalid);
     }
     Answer::Done
 }
@@ -303,7 +271,7 @@ fn room_for(
     call_lengths::store_fits(query, limits, places, store)
 }
 
-// 10, 11, 12, 2, 3, 4, 6 and 13, for so many placements and areas of these lengths.
+// 10, 11, 12, 2, 3, 4 and 6, for so many placements and areas of these lengths.
 pub fn begin_checks(
     query: Query,
     limits: Limits,

@@ -29,7 +29,7 @@ use Rattle.call_checks.proofs.Asked.{first-then, first-stops, query-parts}
 use Rattle.call_checks.proofs.Passed.{Framing, Spacious, frames-found, areas-found}
 use Rattle.call_checks.proofs.Placed.{places-whole}
 use Rattle.set_extend.specs.Join.{Rowed}
-use Rattle.set_cover.specs.Cover.{AllowReady}
+use Rattle.set_blocked.specs.Blocked.{AllowReady}
 use Rattle.call_judge.specs.Chosen.{Chosen}
 
 -- ---- the checks, in parts

@@ -10,7 +10,7 @@ use Rattle.base_model.specs.declared.Query.{Query}
 use Rattle.ground_rects.specs.Rects.{small}
 use Rattle.ground_rects.specs.Windows.{centres, windowFits, inWindow}
 use Rattle.set_extend.specs.Join.{Rowed}
-use Rattle.set_cover.specs.Cover.{AllowReady}
+use Rattle.set_blocked.specs.Blocked.{AllowReady}
 
 pub record Chosen (q : Query) (groups numbers : List ℕ) (edges : List ℤ) (blockBase allowBase set : List ℕ) : Type 0 where
   pub fits : windowFits 8192 8192 (q .window) ≡ true

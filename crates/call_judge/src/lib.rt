@@ -30,7 +30,7 @@ fn selection_fits(selection: &[u16], n: usize) -> bool
     members_fit(selection, n)
 }
 
-// 10, 2, 3, 4, 6, 13, 14, 15 and 17, for working areas of these lengths.
+// 10, 2, 3, 4, 6, 14, 15 and 17, for working areas of these lengths.
 fn judge_checks(
     query: Query,
     groups: &[u32],
@@ -209,7 +209,7 @@ fn judge_checked(
 }
 
 // Judges a selection: the first verdict that holds, and the number of centres that the selection leaves open to the blocked mover.
-// Refuses 10, 2, 3, 4, 6, 13, 14, 15 and 17, and then writes nothing. Accepted, it leaves the working areas zero up to their lengths.
+// Refuses 10, 2, 3, 4, 6, 14, 15 and 17, and then writes nothing. Accepted, it leaves the working areas zero up to their lengths.
 pub fn judge(
     query: Query,
     groups: &[u32],

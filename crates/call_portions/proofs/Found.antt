@@ -34,7 +34,7 @@ use Rattle.call_checks.proofs.Placed.{places-whole}
 use Rattle.search_tidy.specs.Stores.{PartsUsed, Passing, LaidBack}
 use Rattle.search_tidy.proofs.Whole.{used-parts}
 use Rattle.search_turn.specs.Portion.{Sound}
-use Rattle.set_cover.specs.Cover.{AllowReady}
+use Rattle.set_blocked.specs.Blocked.{AllowReady}
 use Rattle.search_steps.specs.Terms.{Terms, terms, boardIn, planIn, Given, Holds, HoldsSome}
 
 allow-ready : (w : Rect) (x : Allow) (base : List ℕ) → allowSmall x ≡ true → allowLong (centres w) x (length base) ≡ true → AllowReady w x base

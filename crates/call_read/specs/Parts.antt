@@ -17,7 +17,7 @@ use Rattle.call_checks.specs.Parts.{frameChecks, areaChecks}
 unfoldable pub queried : Inputs → Limits → List (Option Said)
 queried i l = groupChecks i ++ limitChecks l ++ frameChecks i
 
--- 6, 13, 14 and 15
+-- 6, 14 and 15
 unfoldable pub lent : Inputs → (long : Bool) → List (Option Said)
 lent i long = areaChecks i long ++ placeChecks i
 

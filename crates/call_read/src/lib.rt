@@ -78,7 +78,7 @@ fn check_queried(query: Query, limits: Limits, groups: &[u32]) -> Answer
     call_checks::check_query(query)
 }
 
-// 6, 13, 14 and 15.
+// 6, 14 and 15.
 fn check_lent(
     query: Query,
     limits: Limits,

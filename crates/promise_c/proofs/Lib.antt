@@ -1,3 +1,4 @@
 pub mod OnNumbers
 pub mod KeptOn
 pub mod ExtendedOn
+pub mod CountsKept

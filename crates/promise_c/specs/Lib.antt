@@ -1,2 +1,3 @@
 pub mod PromiseOn
 pub mod LongerOn
+pub mod CountsOn

@@ -1,3 +1,4 @@
 pub mod Example
 pub mod Raising
 pub mod ThroughC
+pub mod Counted

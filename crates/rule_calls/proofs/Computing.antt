@@ -52,7 +52,7 @@ use Rattle.rule_calls.specs.Calls.{
   judgeChecks,
   judgeCall,
 }
-use Rattle.rule_calls.specs.Checks.{groupChecks, moversSmall, bytesFit, routeChecks, placementFits, firstMisplaced, placeChecks, limitChecks, queryChecks}
+use Rattle.rule_calls.specs.Checks.{groupChecks, moversSmall, routeChecks, placementFits, firstMisplaced, placeChecks, limitChecks, queryChecks}
 use Rattle.rule_layouts.specs.Flat.{rectAt, placementAt, wholes, placementsOf}
 use Rattle.rule_layouts.specs.Inputs.{noPlace, placesOf, moverOf, allowedOf, boardOf}
 use Rattle.rule_calls.specs.RecordCheck.{layoutsFit, rowFits, routesFit, stoodOn, listFits, recordFits}
@@ -73,7 +73,7 @@ unfolding anyOf allOf select flat firstOf isSome span below total member same as
     state stop lastTaken setOn pointsKept framesLeft
     countsLength pointsLength workFits storeFits basesFit laid cleared reasonOf numberOf rowOf positions numbers pointsOf listOf listsOf stateOf recordOf row storeOf
     bare prepareChecks prepareCall noRecord beginChecks bothRoutes beginCall planOf stepChecks stepCall readChecks readCall judgementOf selectionFits judgeChecks judgeCall
-    groupChecks moversSmall bytesFit routeChecks placementFits firstMisplaced placeChecks limitChecks queryChecks
+    groupChecks moversSmall routeChecks placementFits firstMisplaced placeChecks limitChecks queryChecks
     rectAt placementAt wholes placementsOf
     noPlace placesOf moverOf allowedOf boardOf
     layoutsFit rowFits routesFit stoodOn listFits recordFits

@@ -68,7 +68,7 @@ module _ (i : Inputs) where
       then-named (groupChecks i ++ limitChecks l) (queryChecks i b)
       (asks-named 10 _ _ (omega arith) (asks-named 11 _ _ (omega arith) (asks-named 12 _ [] (omega arith) last-named)))
       (asks-named 2 _ _ (omega arith)
-      (asks-named 3 _ _ (omega arith) (asks-named 4 _ _ (omega arith) (asks-named 6 _ _ (omega arith) (asks-named 13 _ [] (omega arith) last-named)))))
+      (asks-named 3 _ _ (omega arith) (asks-named 4 _ _ (omega arith) (asks-named 6 _ [] (omega arith) last-named))))
 
 route-named : (g : Board) (m : Mover) → Named (first (routeChecks g m))
 unfolding routeChecks

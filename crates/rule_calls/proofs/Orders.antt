@@ -3,7 +3,7 @@
 use Prim.Native.Nat.{ℕ}
 use mathlib.Core.Path.{_≡_, refl}
 use mathlib.Core.Option.{some}
-use mathlib.Core.List.{List, [], _∷_, map}
+use mathlib.Core.List.{List, [], _∷_, _++_, map}
 use lib.ListN.{replicate}
 use Rattle.base_model.specs.declared.Allow.the-variants.{Nobody, Bounded}
 use Rattle.base_model.specs.declared.Limits.{Limits}
@@ -73,13 +73,12 @@ faulty =
     -- 4 for each mover, then 6
     ∷ (given W (at 0 1) (at 4 1) (reach 257) Nobody (2 ∷ []) [] [] [] with few is number 4)
     ∷ (given W (at 0 1) (at 4 1) still0 (Bounded (reach 257)) (2 ∷ []) [] [] [] with few is number 4)
-    -- 6 for each baseline, then 13
-    ∷ (given W (at 0 1) (at 4 1) still0 Nobody (2 ∷ []) [] (replicate 14 2) [] with few is number 6)
-    ∷ (given W (at 0 1) (at 4 1) still0 (Bounded still0) (2 ∷ []) [] open0 (replicate 14 2) with few is number 6)
-    -- 13 for each baseline, then 15 (7 for begin)
-    ∷ (given W (at 0 1) (at 4 1) still0 Nobody (2 ∷ []) (place 6 0 W W ∷ []) (replicate 15 2) [] with few is number 13)
-    ∷ (given W (at 0 1) (at 4 1) still0 (Bounded still0) (2 ∷ []) (place 6 0 W W ∷ []) open0 (replicate 15 2) with few is number 13)
-    -- 15 with its index, then 16 or 17
+    -- 6 for each baseline, then 15 (7 for begin)
+    ∷ (given W (at 0 1) (at 4 1) still0 Nobody (2 ∷ []) (place 6 0 W W ∷ []) (replicate 14 2) [] with few is number 6)
+    ∷ (given W (at 0 1) (at 4 1) still0 (Bounded still0) (2 ∷ []) (place 6 0 W W ∷ []) open0 (replicate 14 2) with few is number 6)
+    -- 15 with its index, then 16 or 17; counts above 1 in a baseline are no fault
+    ∷ (given W (at 0 1) (at 4 1) still0 Nobody (2 ∷ []) (place 6 0 W W ∷ []) (2 ∷ replicate 13 0 ++ 255 ∷ []) [] with few is (15, 0 ∷ []))
+    ∷ (given W (at 0 1) (at 4 1) still0 (Bounded still0) (2 ∷ []) (place 6 0 W W ∷ []) open0 (255 ∷ replicate 13 0 ++ 2 ∷ []) with few is (15, 0 ∷ []))
     ∷ (alone (good ∷ place 6 0 W W ∷ []) with few is (15, 1 ∷ []))
     ∷ []
 

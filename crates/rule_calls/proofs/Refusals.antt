@@ -114,7 +114,12 @@ beginning =
     ∷ (beginAnswer (given W (at 0 1) (at 4 1) still0 (Bounded (reach 257)) [] [] [] []) (limits 5 5) gives number 4)
     ∷ (beginAnswer (both open0 (replicate 14 2)) (limits 5 5) gives number 6)
     ∷ (said (beginCall eightSteps (both (replicate 15 2) open0) (limits 5 5) (workFor W) (storeFor (alone []) (limits 5 5)) .answer) gives number 6)
-    ∷ (beginAnswer (both (replicate 15 1) (replicate 15 2)) (limits 5 5) gives number 13)
+    -- any count that isn't zero blocks, and none is turned away
+    ∷ (beginAnswer (both (replicate 15 2) open0) (limits 5 5) gives number 7)
+    ∷ (beginAnswer (both open0 (replicate 15 255)) (limits 5 5) gives number 7)
+    ∷ (beginAnswer (both (replicate 9 0 ++ replicate 6 2) open0) (limits 5 5) gives number 8)
+    ∷ (beginAnswer (both open0 (replicate 2 0 ++ 2 ∷ replicate 4 0 ++ 255 ∷ replicate 4 0 ++ 3 ∷ 0 ∷ 0 ∷ [])) (limits 5 5) gives number 9)
+    ∷ (beginAnswer (both (2 ∷ replicate 14 0) (replicate 14 0 ++ 255 ∷ [])) (limits 5 5) gives number 0)
     ∷ (beginAnswer (both (replicate 15 1) open0) (limits 5 5) gives number 7)
     ∷ (beginAnswer (both (replicate 9 0 ++ replicate 6 1) (replicate 15 1)) (limits 5 5) gives number 8)
     ∷ (beginAnswer (both (replicate 2 0 ++ 1 ∷ replicate 4 0 ++ 1 ∷ replicate 4 0 ++ 1 ∷ 0 ∷ 0 ∷ []) (replicate 15 1)) (limits 5 5) gives number 9)

@@ -33,7 +33,7 @@ use Rattle.rule_search.specs.Formed.{PlanOn, Good}
 use Rattle.rule_search.proofs.Steps.{step-zero, step-add, step-stopped, handed, exactly-n, evaluating, step-only}
 use Rattle.rule_search.proofs.Formed.{step-good, begun-good}
 use Rattle.rule_calls.specs.Areas.{Work, Store, basesFit, workFits, storeFits, cleared, numberOf, reasonOf, rowOf, stateOf, recordOf, storeOf}
-use Rattle.rule_calls.specs.Checks.{groupChecks, limitChecks, queryChecks, placeChecks, placementFits, firstMisplaced, moversSmall, bytesFit}
+use Rattle.rule_calls.specs.Checks.{groupChecks, limitChecks, queryChecks, placeChecks, placementFits, firstMisplaced, moversSmall}
 use Rattle.rule_calls.specs.RecordCheck.{recordFits}
 use Rattle.rule_calls.specs.Calls.{After, beginChecks, bothRoutes, beginCall, planOf, stepChecks, stepCall, readChecks, readCall}
 use Rattle.rule_calls.proofs.Back.{state-back, reason-back}
@@ -103,7 +103,7 @@ fair i l long e f =
     let x = asked 3 (inWindow (i .query .window) (i .query .start) && inWindow (i .query .window) (i .query .end)) _ (w .1) in
     let y = both (inWindow (i .query .window) (i .query .start)) (inWindow (i .query .window) (i .query .end)) (x .0) in
     let z = asked 4 (moversSmall i) _ (x .1) in
-    let u = asked 6 (basesFit i && long) (ask 13 (bytesFit i) ∷ []) (z .1) in
+    let u = asked 6 (basesFit i && long) [] (z .1) in
     let p = asked 14 (leb (length (i .places)) 6144) (firstMisplaced (i .query .window) (i .groups) 0 (i .places) ∷ []) f in (
       both (basesFit i) long (u .0) .1,
       record {

@@ -4,7 +4,7 @@ use mathlib.Core.Bool.{Bool, true, false, _&&_}
 use mathlib.Core.Option.{Option, none, some}
 use mathlib.Core.List.{List, [], _∷_}
 use lib.Dec.{leb, ltb}
-use lib.ListN.{length, take}
+use lib.ListN.{length}
 use Rattle.base_laws.specs.Lists.{allOf, total, isSome}
 use Rattle.base_model.specs.Answers.{Said, ask}
 use Rattle.base_model.specs.declared.Rect.{Rect}
@@ -12,7 +12,7 @@ use Rattle.base_model.specs.declared.Placement.{Placement}
 use Rattle.base_model.specs.declared.Allow.the-variants.{Nobody, Bounded}
 use Rattle.base_model.specs.declared.Limits.{Limits}
 use Rattle.ground_rects.specs.Rects.{nonempty, holds, small}
-use Rattle.ground_rects.specs.Windows.{centres, windowFits, inWindow}
+use Rattle.ground_rects.specs.Windows.{windowFits, inWindow}
 use Rattle.rule_layouts.specs.Boards.{Mover, Board, leavesOpen, routePast}
 use Rattle.rule_layouts.specs.Inputs.{Inputs}
 use Rattle.rule_calls.specs.Areas.{basesFit}
@@ -24,12 +24,6 @@ groupChecks i = ask 10 (leb (length (i .groups)) 6 && allOf (λ (k : ℕ). leb 1
 -- passes 4: no bound of either mover is above 256
 unfoldable pub moversSmall : Inputs → Bool
 moversSmall i = small (i .query .block) && elim (i .query .allow) [ Nobody ↦ true | Bounded m ↦ small m ]
-
--- passes 13: no baseline byte is above 1
-unfoldable pub bytesFit : Inputs → Bool
-bytesFit i =
-    allOf (λ (b : ℕ). leb b 1) (take (centres (i .query .window)) (i .blockBase))
-    && elim (i .query .allow) [ Nobody ↦ true | Bounded m ↦ allOf (λ (b : ℕ). leb b 1) (take (centres (i .query .window)) (i .allowBase)) ]
 
 -- 7: start blocked; 8: end blocked; 9: no route exists
 unfoldable pub routeChecks : Board → Mover → List (Option Said)
@@ -54,12 +48,11 @@ placeChecks i = ask 14 (leb (length (i .places)) 6144) ∷ firstMisplaced (i .qu
 unfoldable pub limitChecks : Limits → List (Option Said)
 limitChecks l = ask 11 (leb 1 (l .states) && leb (l .states) 100000) ∷ ask 12 (leb 1 (l .results) && leb (l .results) 32) ∷ []
 
--- 2 (the map here is 8,192 square), 3, 4, 6 (the areas that the call takes are long enough), 13
+-- 2 (the map here is 8,192 square), 3, 4, 6 (the areas that the call takes are long enough)
 unfoldable pub queryChecks : Inputs → (long : Bool) → List (Option Said)
 queryChecks i long =
     ask 2 (windowFits 8192 8192 (i .query .window))
     ∷ ask 3 (inWindow (i .query .window) (i .query .start) && inWindow (i .query .window) (i .query .end))
     ∷ ask 4 (moversSmall i)
     ∷ ask 6 (basesFit i && long)
-    ∷ ask 13 (bytesFit i)
     ∷ []

@@ -3,15 +3,18 @@ use Prim.Native.Nat.{ℕ, zero, suc, _*_}
 use mathlib.Core.Path.{_≡_, refl}
 use mathlib.Core.Bool.{Bool, true, false}
 use mathlib.Core.Option.{Option, none, some}
-use mathlib.Core.List.{List, [], _∷_}
+use mathlib.Core.List.{List, [], _∷_, map}
+use lib.IntN.{pos}
 use lib.Dec.{eqb}
 use Rattle.base_laws.specs.Lists.{anyOf, allOf, select, flat, firstOf, isSome, span, below, member, without}
 use Rattle.base_model.specs.declared.Verdict.the-variants.{Slots, Overlap, EndCovered, Open, Spare, Shut, Wall as AWall}
 use Rattle.rule_routes.specs.Edges.{stepBy, eightSteps, eqZ, centre, inside, sidesFrom, edgeBy, edgesFrom, windowEdges}
 use Rattle.rule_routes.specs.Routes.{neighbours, known, onward, discover, sweep, searchFrom, anyRoute, nodesOf, route, sidesOf, leansOn}
+use Rattle.ground_rects.specs.Rects.{rect}
 use Rattle.rule_layouts.specs.Boards.{Mover, Board, used, mayJoin, leavesOpen, openEnds, routePast}
 use Rattle.rule_layouts.specs.Explore.{Nothing, Extend, Wall, touches, extensions, isMinimalBlock, allowedRoute, wallBy, explore}
 use Rattle.rule_layouts.specs.Judge.{overSlots, overlaps, verdict, groundLeft}
+use Rattle.rule_layouts.specs.Inputs.{moverOf}
 
 -- a name under which an evaluation unfolds
 unfoldable pub exploring : ℕ
@@ -94,3 +97,9 @@ joining : mayJoin (row none .places) (0 ∷ []) 0 ∷ mayJoin (row none .places)
     ≡ false ∷ true ∷ false ∷ false ∷ []
 unfolding exploring board thin touching row corner small itselfAlone
 joining = refl
+
+-- a mover over a baseline of counts: blocked where the count is not zero
+counts : map (moverOf (rect (pos 0) (pos 0) (pos 5) (pos 1)) [] (record { left = 0; top = 0; right = 0; bottom = 0 }) (0 ∷ 1 ∷ 2 ∷ 7 ∷ 255 ∷ []) .blocked) (below 6)
+    ≡ false ∷ true ∷ true ∷ true ∷ true ∷ false ∷ []
+unfolding exploring moverOf
+counts = refl

@@ -16,7 +16,7 @@ use Rattle.rule_routes.specs.Edges.{Step, windowEdges}
 use Rattle.rule_layouts.specs.Inputs.{moverOf, allowedOf, boardOf}
 use Rattle.rule_layouts.specs.Flat.{placementAt, placementsOf, inputsOf}
 use Rattle.rule_layouts.proofs.FlatPlaces.{place-at, flat-places}
-use Rattle.set_cover.specs.Cover.{moverIn, allowIn}
+use Rattle.set_blocked.specs.Blocked.{moverIn, allowIn}
 use Rattle.set_board.specs.Board.{flatBoard}
 
 module _ (n : ℕ) (numbers : List ℕ) (edges : List ℤ) (fours : length numbers ≡ 4 * n) (eights : length edges ≡ 8 * n) where

@@ -3,7 +3,7 @@ use Prim.Native.Nat.{ℕ}
 use mathlib.Core.List.{List}
 use native.Mathlib.Omega.{arith}
 use lib.IntN.{ℤ}
-use Rattle.set_cover.specs.Cover.{Named}
+use Rattle.set_blocked.specs.Blocked.{Named}
 use Rattle.set_extend.specs.Join.{Rowed}
 
 -- members are named in the row of edges

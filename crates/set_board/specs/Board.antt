@@ -7,7 +7,7 @@ use Rattle.ground_rects.specs.Windows.{width, height, centres}
 use Rattle.rule_routes.specs.Edges.{Step, windowEdges}
 use Rattle.rule_layouts.specs.Boards.{Board}
 use Rattle.rule_layouts.specs.Flat.{placesIn}
-use Rattle.set_cover.specs.Cover.{moverIn, allowIn}
+use Rattle.set_blocked.specs.Blocked.{moverIn, allowIn}
 
 -- the board of n placements lent flat
 unfoldable pub flatBoard : Query → (start end n : ℕ) → (groups numbers : List ℕ) → List ℤ → (blockBase allowBase : List ℕ) → List Step → Board

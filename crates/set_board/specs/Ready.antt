@@ -10,7 +10,7 @@ use Rattle.base_model.specs.declared.Query.{Query}
 use Rattle.ground_rects.specs.Rects.{small}
 use Rattle.ground_rects.specs.Windows.{centres, windowFits, inWindow}
 use Rattle.rule_routes.specs.Edges.{stepsOf, eachOnce}
-use Rattle.set_cover.specs.Cover.{AllowReady}
+use Rattle.set_blocked.specs.Blocked.{AllowReady}
 use Rattle.set_extend.specs.Join.{Rowed}
 
 -- the inputs of an evaluation or a verdict over n placements

@@ -6,7 +6,7 @@ ghost use Prim.Native.Nat.{_+_, _*_, _≤_, _<_};
 ghost use lib.ListN.{length};
 ghost use Rattle.base_laws.specs.Lists.{anyOf};
 ghost use Rattle.rule_layouts.specs.Flat.{placesIn};
-ghost use Rattle.set_cover.specs.Cover.{Named};
+ghost use Rattle.set_blocked.specs.Blocked.{Named};
 ghost use Rattle.set_extend.specs.Join.{Rowed};
 ghost use Rattle.set_clash.specs.Clashes.{crowded, clashing};
 

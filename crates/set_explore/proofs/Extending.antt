@@ -15,7 +15,7 @@ use Rattle.rule_routes.proofs.WindowLaws.{window-within}
 use Rattle.rule_layouts.specs.Boards.{Mover, leavesOpen}
 use Rattle.rule_layouts.specs.Flat.{placesIn}
 use Rattle.rule_layouts.specs.Explore.{Extend, touches, extensions, explore}
-use Rattle.set_cover.specs.Cover.{moverIn, withoutAt}
+use Rattle.set_blocked.specs.Blocked.{moverIn, withoutAt}
 use Rattle.set_extend.specs.Touch.{Trail, touched}
 use Rattle.set_extend.specs.Join.{extending, ListWritten}
 use Rattle.set_extend.proofs.Touching.{walk-linked}

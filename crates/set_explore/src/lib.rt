@@ -11,7 +11,7 @@ ghost use Rattle.rule_routes.specs.Edges.{stepsOf};
 ghost use Rattle.rule_layouts.specs.Inputs.{boardOf};
 ghost use Rattle.rule_layouts.specs.Flat.{inputsOf};
 ghost use Rattle.rule_layouts.specs.Explore as layouts;
-ghost use Rattle.set_cover.specs.Cover.{coverOf, moverIn};
+ghost use Rattle.set_blocked.specs.Blocked.{blockedMap, moverIn};
 ghost use Rattle.route_find.specs.Results as routing;
 ghost use Rattle.set_board.specs.Ready.{Ready, Blank};
 ghost use Rattle.set_board.specs.Board.{flatBoard};
@@ -43,7 +43,7 @@ fn wall_of(
 ) -> Explored
     requires { ⌜ RouteLent (query .window) start end (now map) (now queue) (now predecessors) (now route) ⌝ }
     requires { ⌜ Shutting query (now edges) (now «block_base») (now «allow_base») (now set) ⌝ }
-    requires { ⌜ now map ≡ coverOf (moverIn (query .window) (now edges) (query .block) (now «block_base»)) (centres (query .window))
+    requires { ⌜ now map ≡ blockedMap (moverIn (query .window) (now edges) (query .block) (now «block_base»)) (centres (query .window))
         (now set) ⌝ }
     requires { ⌜ passed (query .window) (stepsOf (now steps)) start end
         (moverIn (query .window) (now edges) (query .block) (now «block_base»)) (now set) ≡ none ⌝ }

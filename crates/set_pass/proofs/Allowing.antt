@@ -13,7 +13,7 @@ use Rattle.ground_rects.specs.Windows.{centres}
 use Rattle.rule_routes.specs.Edges.{Step}
 use Rattle.rule_layouts.specs.Boards.{Mover}
 use Rattle.route_find.specs.Results.{RouteFound, pointCount, laidInto}
-use Rattle.set_cover.specs.Cover.{coverOf, moverIn, allowIn, withoutAt, AllowReady, Named}
+use Rattle.set_blocked.specs.Blocked.{blockedMap, moverIn, allowIn, withoutAt, AllowReady, Named}
 use Rattle.set_pass.specs.declared.Passage as passage
 use Rattle.set_pass.specs.Pass.{Moving, passed, allowedPast}
 use Rattle.set_pass.specs.Maps.{mapAfterAllowed}
@@ -54,10 +54,10 @@ module _ (w : Rect) (steps : List Step) (start end : ℕ) (edges : List ℤ) (al
   unfolding allowIn mapAfterAllowed
   map-nobody e cells = rw e
 
-  pub map-past : (m : Bounds) → allow ≡ Bounded m → (cells cells′ : List ℕ) → cells′ ≡ coverOf (moverIn w edges m base) (centres w) (withoutAt (length s) s)
+  pub map-past : (m : Bounds) → allow ≡ Bounded m → (cells cells′ : List ℕ) → cells′ ≡ blockedMap (moverIn w edges m base) (centres w) (withoutAt (length s) s)
       → cells′ ≡ mapAfterAllowed w (allowIn w edges allow base) s cells
   unfolding allowIn mapAfterAllowed
-  map-past m e cells cells′ l = rw e (l ∙ ap (coverOf (moverIn w edges m base) (centres w)) (whole s))
+  map-past m e cells cells′ l = rw e (l ∙ ap (blockedMap (moverIn w edges m base) (centres w)) (whole s))
 
 -- an allowed mover, or none, by cases
 pub past-cases : (w : Rect) (steps : List Step) (start end : ℕ) (s : List ℕ) (a : Option Mover)

@@ -16,8 +16,8 @@ use Rattle.base_model.specs.declared.Rect.{Rect}
 use Rattle.ground_rects.specs.Windows.{centres}
 use Rattle.rule_routes.specs.Edges.{Step}
 use Rattle.rule_layouts.specs.Boards.{Mover}
-use Rattle.set_cover.specs.Cover.{coverOf, withoutAt}
-use Rattle.set_cover.proofs.Lifts.{without-at-without}
+use Rattle.set_blocked.specs.Blocked.{blockedMap, withoutAt}
+use Rattle.set_blocked.proofs.Without.{without-at-without}
 use Rattle.set_pass.specs.Pass.{AreasKept, passed, minimal}
 use Rattle.set_pass.specs.Maps.{lastLifted, mapAfterLifting}
 use Rattle.base_laws.proofs.Firsts.{first-at, first-none}
@@ -25,7 +25,7 @@ use Rattle.base_laws.proofs.Firsts.{first-at, first-none}
 -- the map over n centres after k members are lifted in turn
 unfoldable pub mapAfter : Mover → ℕ → (s cells : List ℕ) → ℕ → List ℕ
 mapAfter m n s cells zero = cells
-mapAfter m n s cells (suc k) = coverOf m n (withoutAt k s)
+mapAfter m n s cells (suc k) = blockedMap m n (withoutAt k s)
 
 -- k members are lifted in turn, each giving a route
 pub record Lifting (w : Rect) (steps : List Step) (start end : ℕ) (m : Mover) (s cells queue predecessors route cells′ queue′ predecessors′ route′ : List ℕ) (k : ℕ) : Type 0 where
@@ -42,7 +42,7 @@ module _ (w : Rect) (steps : List Step) (start end : ℕ) (m : Mover) where
   map-none [] cells h = refl
   map-none (x ∷ s) cells h = absurd (omega arith)
 
-  map-some : (s cells : List ℕ) → 0 < length s → mapAfterLifting w steps start end m s cells ≡ coverOf m (centres w) (withoutAt (lastLifted w steps start end m s) s)
+  map-some : (s cells : List ℕ) → 0 < length s → mapAfterLifting w steps start end m s cells ≡ blockedMap m (centres w) (withoutAt (lastLifted w steps start end m s) s)
   unfolding mapAfterLifting
   map-some [] cells h = absurd (not-suc-le-zero h)
   map-some (x ∷ s) cells h = refl
@@ -78,9 +78,9 @@ module _ (w : Rect) (steps : List Step) (start end : ℕ) (m : Mover) (s : List 
       first-none tests (true, 0) (length s - 1) (λ j l. let h : j < length s = omega arith in holds-at true j h (n j h))
 
   -- ---- the map
-  map-last : (cells cells′ : List ℕ) (k : ℕ) → 0 < length s → lastLifted w steps start end m s ≡ k → cells′ ≡ coverOf m (centres w) (withoutAt k s)
+  map-last : (cells cells′ : List ℕ) (k : ℕ) → 0 < length s → lastLifted w steps start end m s ≡ k → cells′ ≡ blockedMap m (centres w) (withoutAt k s)
       → cells′ ≡ mapAfterLifting w steps start end m s cells
-  map-last cells cells′ k h e l = l ∙ ap (λ (j : ℕ). coverOf m (centres w) (withoutAt j s)) (sym e) ∙ sym (map-some w steps start end m s cells h)
+  map-last cells cells′ k h e l = l ∙ ap (λ (j : ℕ). blockedMap m (centres w) (withoutAt j s)) (sym e) ∙ sym (map-some w steps start end m s cells h)
 
   map-all : (cells cells′ : List ℕ) (k : ℕ) → k ≡ length s → ((j : ℕ) → j < k → leaves j ≡ true) → cells′ ≡ mapAfter m (centres w) s cells k
       → cells′ ≡ mapAfterLifting w steps start end m s cells
@@ -118,7 +118,7 @@ module _ (w : Rect) (steps : List Step) (start end : ℕ) (m : Mover) (s : List 
         go (no n) = let ne : j ≡ k → ⊥ = n in l .each j (omega arith)
 
     -- one more member, which gives a route
-    pub lifting-more : (r : Bool) {c₂ q₂ p₂ r₂ : List ℕ} → k < length s → r ≡ leaves k → r ≡ true → c₂ ≡ coverOf m (centres w) (withoutAt k s) → length c₂ ≡ length cells′
+    pub lifting-more : (r : Bool) {c₂ q₂ p₂ r₂ : List ℕ} → k < length s → r ≡ leaves k → r ≡ true → c₂ ≡ blockedMap m (centres w) (withoutAt k s) → length c₂ ≡ length cells′
         → AreasKept queue′ predecessors′ route′ q₂ p₂ r₂ → Lifting w steps start end m s cells queue predecessors route c₂ q₂ p₂ r₂ (k + 1)
     unfolding mapAfter
     lifting-more r h e t c z q = record {
@@ -134,7 +134,7 @@ module _ (w : Rect) (steps : List Step) (start end : ℕ) (m : Mover) (s : List 
       at-lift j h = ap (λ (x : List ℕ). isSome (passed w steps start end m x)) (sym (without-at-without j s rising h))
 
       -- member number k gives none
-      pub lifting-stop : (r : Bool) {c₂ : List ℕ} → k < length s → r ≡ leaves k → r ≡ false → c₂ ≡ coverOf m (centres w) (withoutAt k s)
+      pub lifting-stop : (r : Bool) {c₂ : List ℕ} → k < length s → r ≡ leaves k → r ≡ false → c₂ ≡ blockedMap m (centres w) (withoutAt k s)
           → (false ≡ minimal w steps start end m s) × (c₂ ≡ mapAfterLifting w steps start end m s cells)
       unfolding minimal
       lifting-stop r {c₂} h e f c = (

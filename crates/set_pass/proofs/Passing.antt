@@ -14,9 +14,9 @@ use Rattle.ground_rects.specs.Windows.{width, height, centres}
 use Rattle.rule_routes.specs.Edges.{Step, windowEdges}
 use Rattle.rule_routes.specs.Routes as routes
 use Rattle.rule_layouts.specs.Boards.{Mover, leavesOpen}
-use Rattle.set_cover.specs.Cover.{bit, coverOf, withoutAt}
-use Rattle.set_cover.proofs.Covers.{cover-at}
-use Rattle.set_cover.proofs.Lifts.{without-at-past}
+use Rattle.set_blocked.specs.Blocked.{bit, blockedMap, withoutAt}
+use Rattle.set_blocked.proofs.Members.{blocked-at}
+use Rattle.set_blocked.proofs.Without.{without-at-past}
 use Rattle.route_find.specs.Ground.{openIn}
 use Rattle.route_find.specs.Results.{RouteFound, pointCount, laidInto}
 use Rattle.set_pass.specs.Pass.{RouteLent, AreasKept, passed}
@@ -28,11 +28,11 @@ open-bit true = refl
 open-bit false = refl
 
 -- a byte of the map is zero where the set leaves the centre open
-pub open-is : (m : Mover) (n : ℕ) (s cells : List ℕ) → cells ≡ coverOf m n s → (c : ℕ) → c < n → openIn cells c ≡ leavesOpen m s c
+pub open-is : (m : Mover) (n : ℕ) (s cells : List ℕ) → cells ≡ blockedMap m n s → (c : ℕ) → c < n → openIn cells c ≡ leavesOpen m s c
 unfolding openIn
-open-is m n s cells e c h = ap (λ (x : ℕ). eqb x 0) (ap (λ (l : List ℕ). getD l c 0) e ∙ cover-at m n s c h) ∙ open-bit (leavesOpen m s c)
+open-is m n s cells e c h = ap (λ (x : ℕ). eqb x 0) (ap (λ (l : List ℕ). getD l c 0) e ∙ blocked-at m n s c h) ∙ open-bit (leavesOpen m s c)
 
-pub past-is : (w : Rect) (steps : List Step) (start end : ℕ) (m : Mover) (s cells : List ℕ) (W H : ℕ) → W ≡ width w → H ≡ height w → cells ≡ coverOf m (centres w) s
+pub past-is : (w : Rect) (steps : List Step) (start end : ℕ) (m : Mover) (s cells : List ℕ) (W H : ℕ) → W ≡ width w → H ≡ height w → cells ≡ blockedMap m (centres w) s
     → start < centres w → end < centres w → routes.route (windowEdges W H steps) (W * H) (openIn cells) start end ≡ passed w steps start end m s
 unfolding passed centres
 past-is w steps start end m s cells W H p q e a b =

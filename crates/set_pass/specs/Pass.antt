@@ -15,7 +15,7 @@ use Rattle.ground_rects.specs.Windows.{width, height, centres}
 use Rattle.rule_routes.specs.Edges.{Step, windowEdges}
 use Rattle.rule_routes.specs.Routes as routes
 use Rattle.rule_layouts.specs.Boards.{Mover, leavesOpen}
-use Rattle.set_cover.specs.Cover.{AllowReady, Named}
+use Rattle.set_blocked.specs.Blocked.{AllowReady, Named}
 
 -- the working areas for a route in the window from centre start to centre end; the map may hold anything
 pub record RouteLent (w : Rect) (start end : ℕ) (map queue predecessors route : List ℕ) : Type 0 where

@@ -7,7 +7,7 @@ ghost use mathlib.Core.Bool.{true};
 ghost use Rattle.base_laws.specs.Lists.{ascends, isSome};
 ghost use Rattle.ground_rects.specs.Windows.{centres};
 ghost use Rattle.rule_routes.specs.Edges.{stepsOf};
-ghost use Rattle.set_cover.specs.Cover.{coverOf, moverIn, allowIn, withoutAt, AllowReady, Named};
+ghost use Rattle.set_blocked.specs.Blocked.{blockedMap, moverIn, allowIn, withoutAt, AllowReady, Named};
 ghost use Rattle.route_find.specs.Results as routing;
 ghost use Rattle.set_pass.specs.Pass.{RouteLent, Moving, AreasKept, passed, minimal, allowedPast};
 ghost use Rattle.set_pass.specs.Maps.{mapAfterLifting, mapAfterAllowed};
@@ -44,10 +44,10 @@ pub fn route_past(
         (now (route .entry)) (now (route .exit)) r ⌝ }
     ensures { λ r. ⌜ routing.SearchRestored (now (queue .entry)) (now (predecessors .entry))
         (now (queue .exit)) (now (predecessors .exit)) ⌝ }
-    ensures { λ r. ⌜ now (map .exit) ≡ coverOf (moverIn window (now (edges .entry)) mover (now (base .entry))) (centres window)
+    ensures { λ r. ⌜ now (map .exit) ≡ blockedMap (moverIn window (now (edges .entry)) mover (now (base .entry))) (centres window)
         (withoutAt lifted (now (set .entry))) ⌝ }
 {
-    set_cover::blocked_for(base, window, edges, mover, set, lifted, map);
+    set_blocked::blocked_for(base, window, edges, mover, set, lifted, map);
     let width = ground_rects::width(window);
     let height = ground_rects::height(window);
     route_find::route(
@@ -85,7 +85,7 @@ pub fn lets_pass(
         (moverIn window (now (edges .entry)) mover (now (base .entry))) (withoutAt lifted (now (set .entry)))) ⌝ }
     ensures { λ r. ⌜ AreasKept (now (queue .entry)) (now (predecessors .entry)) (now (route .entry))
         (now (queue .exit)) (now (predecessors .exit)) (now (route .exit)) ⌝ }
-    ensures { λ r. ⌜ now (map .exit) ≡ coverOf (moverIn window (now (edges .entry)) mover (now (base .entry))) (centres window)
+    ensures { λ r. ⌜ now (map .exit) ≡ blockedMap (moverIn window (now (edges .entry)) mover (now (base .entry))) (centres window)
         (withoutAt lifted (now (set .entry))) ⌝ }
 {
     let n = route_past(

@@ -9,7 +9,7 @@ ghost use mathlib.Core.Path.{_≡_};
 ghost use Rattle.base_laws.specs.Lists.{isSome};
 ghost use Rattle.ground_rects.specs.Windows.{centres};
 ghost use Rattle.rule_routes.specs.Edges.{stepsOf};
-ghost use Rattle.set_cover.specs.Cover.{coverOf, moverIn, allowIn, AllowReady, Named};
+ghost use Rattle.set_blocked.specs.Blocked.{blockedMap, moverIn, allowIn, AllowReady, Named};
 ghost use Rattle.set_pass.specs.Pass.{RouteLent, Moving, Shutting, AreasKept, passed, allowedPast};
 ghost use Rattle.set_shut.specs.Shut.{pastShut};
 
@@ -34,7 +34,7 @@ pub fn is_open(
         (moverIn window (now (edges .entry)) mover (now (base .entry))) (now (set .entry))) ⌝ }
     ensures { λ r. ⌜ AreasKept (now (queue .entry)) (now (predecessors .entry)) (now (route .entry))
         (now (queue .exit)) (now (predecessors .exit)) (now (route .exit)) ⌝ }
-    ensures { λ r. ⌜ now (map .exit) ≡ coverOf (moverIn window (now (edges .entry)) mover (now (base .entry))) (centres window)
+    ensures { λ r. ⌜ now (map .exit) ≡ blockedMap (moverIn window (now (edges .entry)) mover (now (base .entry))) (centres window)
         (now (set .entry)) ⌝ }
 {
     let n = set.len();

@@ -19,8 +19,8 @@ use Rattle.rule_layouts.specs.Boards.{Mover, Board, leavesOpen}
 use Rattle.rule_layouts.specs.Flat.{inputsOf}
 use Rattle.rule_layouts.specs.Inputs.{boardOf}
 use Rattle.rule_layouts.specs.Judge.{groundLeft}
-use Rattle.set_cover.specs.Cover.{coverOf, moverIn}
-use Rattle.set_cover.proofs.Covers.{length-cover}
+use Rattle.set_blocked.specs.Blocked.{blockedMap, moverIn}
+use Rattle.set_blocked.proofs.Members.{length-blocked}
 use Rattle.set_board.specs.Board.{flatBoard}
 use Rattle.set_board.proofs.FlatBoard.{flat-board}
 use Rattle.set_pass.proofs.Passing.{open-is}
@@ -60,14 +60,14 @@ module _ (f : ℕ → Bool) (n : ℕ) where
   tally-all count i t h = let e : i ≡ n = omega (arith, t .upto) in rw e at (t .so)
 
 -- the map's zero bytes
-pub open-count : (m : Mover) (n : ℕ) (s cells : List ℕ) → cells ≡ coverOf m n s → openBytes cells ≡ length (select (leavesOpen m s) (below n))
+pub open-count : (m : Mover) (n : ℕ) (s cells : List ℕ) → cells ≡ blockedMap m n s → openBytes cells ≡ length (select (leavesOpen m s) (below n))
 unfolding openBytes
 open-count m n s cells e =
-    ap (λ (k : ℕ). length (select (openIn cells) (below k))) (ap (λ (x : List ℕ). length x) e ∙ length-cover m n s)
+    ap (λ (k : ℕ). length (select (openIn cells) (below k))) (ap (λ (x : List ℕ). length x) e ∙ length-blocked m n s)
     ∙ ap length (filter-same (openIn cells) (leavesOpen m s) (below n) (λ c k. open-is m n s cells e c (below-out n c k)))
 
 pub ground-flat : (q : Query) (edges : List ℤ) (blockBase s cells : List ℕ) (r : ℕ)
-    → cells ≡ coverOf (moverIn (q .window) edges (q .block) blockBase) (centres (q .window)) s → r ≡ openBytes cells
+    → cells ≡ blockedMap (moverIn (q .window) edges (q .block) blockBase) (centres (q .window)) s → r ≡ openBytes cells
     → (n : ℕ) (steps : List Step) (groups numbers allow : List ℕ) → length numbers ≡ 4 * n → length edges ≡ 8 * n
     → r ≡ groundLeft (boardOf steps (inputsOf q groups numbers edges blockBase allow)) s
 unfolding groundLeft flatBoard

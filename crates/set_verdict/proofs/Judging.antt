@@ -22,7 +22,7 @@ use Rattle.rule_layouts.specs.Explore.{isMinimalBlock, allowedRoute}
 use Rattle.rule_layouts.specs.Inputs.{boardOf}
 use Rattle.rule_layouts.specs.Flat.{placesIn, inputsOf}
 use Rattle.rule_layouts.specs.Judge.{overSlots, overlaps, verdict}
-use Rattle.set_cover.specs.Cover.{coverOf, moverIn, allowIn}
+use Rattle.set_blocked.specs.Blocked.{blockedMap, moverIn, allowIn}
 use Rattle.set_board.specs.Ready.{Blank}
 use Rattle.set_board.specs.Board.{flatBoard}
 use Rattle.set_board.proofs.FlatBoard.{flat-board}
@@ -81,7 +81,7 @@ module _ (w : Rect) (steps : List Step) (start end : ℕ) (block : Mover) (allow
   byFit = pastFit w steps start end block allow s
 
   -- the ends are looked at on the map that the set lays
-  module _ (cells : List ℕ) (laid : cells ≡ coverOf block (centres w) s) (startBelow : start < centres w) (endBelow : end < centres w)
+  module _ (cells : List ℕ) (laid : cells ≡ blockedMap block (centres w) s) (startBelow : start < centres w) (endBelow : end < centres w)
       (b : Bool) (e : b ≡ not (openIn cells start && openIn cells end)) where
     ends : b ≡ not (leavesOpen block s start && leavesOpen block s end)
     ends =

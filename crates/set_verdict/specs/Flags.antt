@@ -16,7 +16,7 @@ use Rattle.ground_rects.specs.Windows.{centres, windowFits}
 use Rattle.rule_routes.specs.Edges.{Step}
 use Rattle.route_find.specs.Ground.{openIn}
 use Rattle.rule_layouts.specs.Boards.{Mover, leavesOpen}
-use Rattle.set_cover.specs.Cover.{Named}
+use Rattle.set_blocked.specs.Blocked.{Named}
 use Rattle.set_pass.specs.Pass.{passed}
 use Rattle.set_shut.specs.Shut.{pastShut}
 

@@ -13,7 +13,7 @@ ghost use Rattle.route_find.specs.Ground.{openIn};
 ghost use Rattle.rule_layouts.specs.Inputs.{boardOf};
 ghost use Rattle.rule_layouts.specs.Flat.{inputsOf};
 ghost use Rattle.rule_layouts.specs.Judge as layouts;
-ghost use Rattle.set_cover.specs.Cover.{moverIn, allowIn};
+ghost use Rattle.set_blocked.specs.Blocked.{moverIn, allowIn};
 ghost use Rattle.set_board.specs.Ready.{Ready, Blank};
 ghost use Rattle.set_pass.specs.Pass.{RouteLent, Shutting, AreasKept};
 ghost use Rattle.set_verdict.specs.Flags.{openBytes, pastFit, GroundCounted};
@@ -183,7 +183,7 @@ pub fn ground_left(
     let window = query.window;
     let block = query.block;
     let n = set.len();
-    set_cover::blocked_for(block_base, window, edges, block, set, n, map);
+    set_blocked::blocked_for(block_base, window, edges, block, set, n, map);
     let left = open_bytes(map);
     let c = map.len();
     base_areas::clear_bytes(map, c);

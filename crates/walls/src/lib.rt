@@ -1,8 +1,14 @@
 // The calls (RULES 7): the search record lent, the placements lent as a row of records. Each contract stands with its function, in the
 // crate that the call is handed on from.
 
-// Marks a mover's baseline. It is the call by value: it takes neither placements nor a record.
+// Marks a mover's baseline. This call and the next two are the calls by value: they take neither placements nor a record.
 pub use call_prepare::prepare;
+
+// Covers a mover's baseline with a rectangle: one more at each centre off which it keeps the mover.
+pub use call_cover::cover;
+
+// Lifts the rectangle off again: one less at each of these centres.
+pub use call_cover::lift;
 
 // Begins a search: the record is handed back, all zero on refusal.
 pub use walls_begin::begin;

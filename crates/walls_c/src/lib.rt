@@ -11,7 +11,7 @@ ghost use Rattle.rule_layouts.specs.Flat.{inputsOf};
 ghost use Rattle.rule_calls.specs.Areas.{workIn, storeIn};
 ghost use Rattle.call_prepare.specs.Prepare.{preparation};
 ghost use Rattle.walls_numbers.specs.Numbers.{queryFrom};
-ghost use Rattle.walls_numbers.specs.Left.{prepareOn, beginOn, stepOn, readOn, judgeOn};
+ghost use Rattle.walls_numbers.specs.Left.{prepareOn, coverOn, liftOn, beginOn, stepOn, readOn, judgeOn};
 
 // Prepares a mover.
 #[no_mangle]
@@ -87,6 +87,100 @@ pub extern "C" fn hitrovzen_prepare(
         predecessors,
         route,
     ))
+}
+
+// Covers a mover's baseline with a rectangle.
+#[no_mangle]
+pub extern "C" fn hitrovzen_cover(
+    window_left: i32,
+    window_top: i32,
+    window_right: i32,
+    window_bottom: i32,
+    mover_left: u32,
+    mover_top: u32,
+    mover_right: u32,
+    mover_bottom: u32,
+    rect_left: i32,
+    rect_top: i32,
+    rect_right: i32,
+    rect_bottom: i32,
+    baseline: &mut [u8],
+) -> u32
+    ensures { λ r. ⌜
+        coverOn
+        (rect «window_left» «window_top» «window_right» «window_bottom»)
+        (record { left = «mover_left»; top = «mover_top»; right = «mover_right»; bottom = «mover_bottom» })
+        (rect «rect_left» «rect_top» «rect_right» «rect_bottom»)
+        (now (baseline .entry))
+        ≡ record { answer = r; baseline = now (baseline .exit) }
+        ⌝ }
+{
+    let window = Rect {
+        left: window_left,
+        top: window_top,
+        right: window_right,
+        bottom: window_bottom,
+    };
+    let mover = Bounds {
+        left: mover_left,
+        top: mover_top,
+        right: mover_right,
+        bottom: mover_bottom,
+    };
+    let rect = Rect {
+        left: rect_left,
+        top: rect_top,
+        right: rect_right,
+        bottom: rect_bottom,
+    };
+    call_read::number_of(call_cover::cover(window, mover, rect, baseline))
+}
+
+// Lifts the rectangle off again.
+#[no_mangle]
+pub extern "C" fn hitrovzen_lift(
+    window_left: i32,
+    window_top: i32,
+    window_right: i32,
+    window_bottom: i32,
+    mover_left: u32,
+    mover_top: u32,
+    mover_right: u32,
+    mover_bottom: u32,
+    rect_left: i32,
+    rect_top: i32,
+    rect_right: i32,
+    rect_bottom: i32,
+    baseline: &mut [u8],
+) -> u32
+    ensures { λ r. ⌜
+        liftOn
+        (rect «window_left» «window_top» «window_right» «window_bottom»)
+        (record { left = «mover_left»; top = «mover_top»; right = «mover_right»; bottom = «mover_bottom» })
+        (rect «rect_left» «rect_top» «rect_right» «rect_bottom»)
+        (now (baseline .entry))
+        ≡ record { answer = r; baseline = now (baseline .exit) }
+        ⌝ }
+{
+    let window = Rect {
+        left: window_left,
+        top: window_top,
+        right: window_right,
+        bottom: window_bottom,
+    };
+    let mover = Bounds {
+        left: mover_left,
+        top: mover_top,
+        right: mover_right,
+        bottom: mover_bottom,
+    };
+    let rect = Rect {
+        left: rect_left,
+        top: rect_top,
+        right: rect_right,
+        bottom: rect_bottom,
+    };
+    call_read::number_of(call_cover::lift(window, mover, rect, baseline))
 }
 
 // Begins a search. A refusal leaves the numbers of the record as they were; entries past the fiftieth are never written.

@@ -24,7 +24,7 @@ use Rattle.rule_routes.specs.Edges.{Step}
 use Rattle.rule_layouts.specs.Boards.{leavesOpen, routePast}
 use Rattle.rule_layouts.specs.Inputs.{Inputs, moverOf, allowedOf, boardOf}
 use Rattle.rule_calls.specs.Areas.{Work, Store, storeIn, basesFit, workFits, storeFits, pointsLength, cleared}
-use Rattle.rule_calls.specs.Checks.{groupChecks, limitChecks, queryChecks, moversSmall, bytesFit, routeChecks, placeChecks}
+use Rattle.rule_calls.specs.Checks.{groupChecks, limitChecks, queryChecks, moversSmall, routeChecks, placeChecks}
 use Rattle.rule_calls.specs.Calls.{
   refuses,
   After,
@@ -222,7 +222,7 @@ module _ (q : Query) (groups blockBase allowBase : List ℕ) (ps : List Placemen
           (length points)) room
 
       begin-same : (w : Work) → beginChecks all l w whole ≡ beginChecks cut l w some-of
-      unfolding beginChecks groupChecks queryChecks moversSmall basesFit bytesFit given
+      unfolding beginChecks groupChecks queryChecks moversSmall basesFit given
       begin-same w = ap (λ (t : Bool). groupChecks all ++ limitChecks l ++ queryChecks all (workFits (q .window) w && t)) store-same
 
       all-many : first (placeChecks all) ≡ some (refusal 14)
@@ -281,7 +281,7 @@ module _ (q : Query) (groups blockBase allowBase : List ℕ) (ps : List Placemen
       -- reading
       read-same : groupChecks all ++ limitChecks l ++ queryChecks all (storeFits all l whole) ≡ groupChecks cut ++ limitChecks l ++ queryChecks cut
           (storeFits cut l some-of)
-      unfolding groupChecks queryChecks moversSmall basesFit bytesFit given
+      unfolding groupChecks queryChecks moversSmall basesFit given
       read-same = ap (λ (t : Bool). groupChecks all ++ limitChecks l ++ queryChecks all t) store-same
 
       read-more : (r : Record) (k : ℕ) → readCall all l r k whole ≡ readCall cut l r k some-of
@@ -321,7 +321,7 @@ module _ (q : Query) (groups blockBase allowBase : List ℕ) (ps : List Placemen
   -- ---- judging
   judge-same : (w : Work) → groupChecks all ++ queryChecks all (workFits (all .query .window) w) ≡ groupChecks cut ++ queryChecks cut
       (workFits (cut .query .window) w)
-  unfolding groupChecks queryChecks moversSmall basesFit bytesFit given
+  unfolding groupChecks queryChecks moversSmall basesFit given
   judge-same w = refl
 
   judge-more : 6145 < length ps → (steps : List Step) (s : List ℕ) (w : Work) → judgeCall steps all s w ≡ judgeCall steps cut s w

@@ -9,24 +9,36 @@ use lib.Seq.{drop-length}
 use borrow.Author.Tests.{leb-true}
 use Rattle.base_laws.specs.Lists.{total, isSome}
 use Rattle.base_model.specs.Answers.{Said, first}
+use Rattle.base_model.specs.declared.Rect.{Rect}
+use Rattle.base_model.specs.declared.Bounds.{Bounds}
 use Rattle.base_model.specs.declared.Limits.{Limits}
 use Rattle.base_model.specs.declared.Record.{Record}
+use Rattle.rule_covers.specs.Covers.{AfterChange, coverCall, liftCall}
 use Rattle.rule_routes.specs.Edges.{eightSteps}
 use Rattle.rule_layouts.specs.Inputs.{Inputs}
 use Rattle.rule_calls.specs.Areas.{Work, Store, storeIn}
 use Rattle.rule_calls.specs.Calls.{Preparation, Prepared, prepareCall, After, noRecord, beginCall, stepCall, readChecks, AfterJudge, judgeCall}
 use Rattle.call_read.specs.Told.{numberIn, indexIn}
 use Rattle.walls_numbers.specs.Numbers.{recordFrom, numbersAfter, judgedAnswer, judgedIndex, judgedVerdict, judgedGround}
-use Rattle.walls_numbers.specs.Left.{prepareOn, fifty, Left, beginChecksOn, stepChecksOn, turned, leftBy, beginOn, stepOn, readChecksOn, placeOf, readOn, judgeOn}
+use Rattle.walls_numbers.specs.Left.{prepareOn, changedBy, coverOn, liftOn, fifty, Left, beginChecksOn, stepChecksOn, turned, leftBy, beginOn, stepOn, readChecksOn, placeOf, readOn, judgeOn}
 use Rattle.walls_numbers.specs.Lent.{lentOf, recordIn, numbersLeft}
 use Rattle.walls_numbers.proofs.Fifty.{left-laid}
 use Rattle.walls_numbers.proofs.Lent.{all-lent, lent-is, begin-fifty, begin-same, step-read, step-same, read-read, read-same}
 
--- ---- preparing and judging
+-- ---- preparing, covering and lifting, judging
 pub prepare-left : (q : Preparation) (b : List ℕ) (w : Work) (o : Prepared) (n : ℕ) → prepareCall eightSteps q b w ≡ o → n ≡ numberIn (o .answer)
     → prepareOn q b w ≡ record { answer = n; baseline = o .baseline; work = o .work }
 unfolding prepareOn
 prepare-left q b w o n e f = rw (e, f)
+
+module _ (w : Rect) (m : Bounds) (r : Rect) (b : List ℕ) (o : AfterChange) (n : ℕ) where
+  pub cover-left : coverCall w m r b ≡ o → n ≡ numberIn (o .answer) → coverOn w m r b ≡ record { answer = n; baseline = o .baseline }
+  unfolding coverOn changedBy
+  cover-left e f = rw (e, f)
+
+  pub lift-left : liftCall w m r b ≡ o → n ≡ numberIn (o .answer) → liftOn w m r b ≡ record { answer = n; baseline = o .baseline }
+  unfolding liftOn changedBy
+  lift-left e f = rw (e, f)
 
 pub judge-left : (i : Inputs) (s : List ℕ) (w : Work) (o : AfterJudge) (n x v g : ℕ) → judgeCall eightSteps i s w ≡ o → n ≡ judgedAnswer (o .answer)
     → x ≡ judgedIndex (o .answer) → v ≡ judgedVerdict (o .answer) → g ≡ judgedGround (o .answer)

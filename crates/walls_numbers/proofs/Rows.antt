@@ -6,11 +6,13 @@ use mathlib.Core.List.{List, [], _∷_, _++_, map}
 use lib.IntN.{pos}
 use lib.ListN.{replicate, take}
 use Rattle.base_laws.specs.Lists.{span}
+use Rattle.base_laws.specs.Fill.{filled}
 use Rattle.base_model.specs.Answers.{verdictNumber}
 use Rattle.base_model.specs.declared.Allow.the-variants.{Nobody, Bounded}
 use Rattle.base_model.specs.declared.Limits.{Limits}
 use Rattle.base_model.specs.declared.Record.{Record}
 use Rattle.base_model.specs.declared.Verdict.the-variants.{Slots, Overlap, EndCovered, Open, Spare, Shut, Wall}
+use Rattle.rule_covers.specs.Covers.{oneMore, mayRise, oneLess, mayFall, offCentre, changed, mayChange, changeChecks, changeCall, coverCall, liftCall}
 use Rattle.rule_layouts.specs.Inputs.{Inputs}
 use Rattle.rule_calls.specs.Areas.{Work, Store}
 use Rattle.rule_calls.proofs.Computing.{computing}
@@ -18,11 +20,13 @@ use Rattle.rule_calls.proofs.Refusals.{zeroed}
 use Rattle.rule_calls.proofs.Drive.{Row, _gives_, gots, wants, at, box, bounds, place, limits, workFor, storeFor, still0, placesP, W, given, open0, alone, good, driving}
 use Rattle.call_read.specs.Told.{numberIn, indexIn}
 use Rattle.walls_numbers.specs.Numbers.{allowFrom, queryFrom, oneWhere, recordNumbers, recordFrom, numbersAfter, judgedAnswer, judgedIndex, judgedVerdict, judgedGround}
-use Rattle.walls_numbers.specs.Left.{prepareOn, Left, fifty, beginChecksOn, numbersFit, stepChecksOn, turned, leftBy, beginOn, stepOn, LeftRead, readChecksOn, placeOf, readOn, judgeOn}
+use Rattle.walls_numbers.specs.Left.{prepareOn, LeftChanged, changedBy, coverOn, liftOn}
+use Rattle.walls_numbers.specs.Left.{Left, fifty, beginChecksOn, numbersFit, stepChecksOn, turned, leftBy, beginOn, stepOn, LeftRead, readChecksOn, placeOf, readOn, judgeOn}
 
 -- a name under which the calls on numbers unfold
 unfoldable pub numbering : ℕ
 unfolding computing driving numberIn indexIn allowFrom queryFrom oneWhere recordNumbers recordFrom numbersAfter verdictNumber judgedAnswer judgedIndex judgedVerdict judgedGround
+    oneMore mayRise oneLess mayFall offCentre changed mayChange changeChecks changeCall coverCall liftCall filled changedBy coverOn liftOn
     prepareOn judgeOn fifty beginChecksOn numbersFit stepChecksOn turned leftBy beginOn stepOn readChecksOn placeOf readOn
 numbering = 0
 
@@ -99,11 +103,11 @@ told o = (o .answer, o .index)
 
 answering : List (Row (ℕ × ℕ))
 answering =
-    -- fewer than fifty numbers: 6, after 4 and before 13
+    -- fewer than fifty numbers: 6, after 4 and before 7
     (told (onBegin (ground 0 0) (replicate 49 9)) gives (6, 0))
     ∷ (told (onBegin (ground 257 0) (replicate 49 9)) gives (4, 0))
     ∷ (told (onBegin (ground 0 2) (replicate 49 9)) gives (6, 0))
-    ∷ (told (onBegin (ground 0 2) (replicate 50 9)) gives (13, 0))
+    ∷ (told (onBegin (ground 0 2) (replicate 50 9)) gives (7, 0))
     ∷ (told (onBegin spoilt (replicate 50 9)) gives (15, 1))
     ∷ (told (onStep (alone placesP) (take 49 (held 0))) gives (6, 0))
     ∷ (told (onStep spoilt (take 49 (held 2))) gives (6, 0))
@@ -195,3 +199,28 @@ judgements : judgeOn (alone placesP) (0 ∷ []) (workFor W) ∷ judgeOn spoilt (
     ∷ []
 unfolding numbering spoilt zeroed
 judgements = refl
+
+-- ---- covering and lifting: the answer, and the baseline with an entry past its centres
+leaving-counts : ℕ → List ℕ → LeftChanged
+leaving-counts a b = record { answer = a; baseline = b }
+
+-- the middle column of W, for a mover that reaches 1 to the left
+column : List ℕ
+column = 0 ∷ 0 ∷ 1 ∷ 1 ∷ 0 ∷ []
+
+counting : List (Row LeftChanged)
+counting =
+    (coverOn W (bounds 1 0 0 0) (box 2 0 3 3) (replicate 15 0 ++ 9 ∷ []) gives leaving-counts 0 (column ++ column ++ column ++ 9 ∷ []))
+    ∷ (liftOn W (bounds 1 0 0 0) (box 2 0 3 3) (column ++ column ++ column ++ 9 ∷ []) gives leaving-counts 0 (replicate 15 0 ++ 9 ∷ []))
+    ∷ (coverOn (box 0 0 0 0) (bounds 1 0 0 0) (box 2 0 3 3) [] gives leaving-counts 2 [])
+    ∷ (coverOn W (bounds 257 0 0 0) (box 2 0 3 3) [] gives leaving-counts 4 [])
+    ∷ (liftOn W (bounds 1 0 0 0) (box 2 0 2 3) (replicate 14 0) gives leaving-counts 6 (replicate 14 0))
+    -- 15 without an index
+    ∷ (liftOn W (bounds 1 0 0 0) (box 2 0 2 3) open0 gives leaving-counts 15 open0)
+    ∷ (coverOn W (bounds 1 0 0 0) (box 2 0 3 3) (replicate 15 255) gives leaving-counts 20 (replicate 15 255))
+    ∷ (liftOn W (bounds 1 0 0 0) (box 2 0 3 3) open0 gives leaving-counts 20 open0)
+    ∷ []
+
+counted : gots counting ≡ wants counting
+unfolding numbering leaving-counts column counting
+counted = refl

@@ -7,8 +7,11 @@ use lib.Dec.{leb, ltb}
 use lib.ListN.{length, getD, take}
 use Rattle.base_laws.specs.Lists.{total}
 use Rattle.base_model.specs.Answers.{Said, ask, first}
+use Rattle.base_model.specs.declared.Rect.{Rect}
+use Rattle.base_model.specs.declared.Bounds.{Bounds}
 use Rattle.base_model.specs.declared.Limits.{Limits}
 use Rattle.base_model.specs.declared.Record.{Record}
+use Rattle.rule_covers.specs.Covers.{AfterChange, coverCall, liftCall}
 use Rattle.rule_routes.specs.Edges.{eightSteps}
 use Rattle.rule_layouts.specs.Inputs.{Inputs}
 use Rattle.rule_calls.specs.Areas.{Work, Store, workFits, storeFits}
@@ -27,6 +30,20 @@ pub record LeftPrepared : Type 0 where
 unfoldable pub prepareOn : Preparation → (baseline : List ℕ) → Work → LeftPrepared
 prepareOn q baseline work =
     let o = prepareCall eightSteps q baseline work in record { answer = numberIn (o .answer); baseline = o .baseline; work = o .work }
+
+-- ---- covering and lifting
+pub record LeftChanged : Type 0 where
+  pub answer : ℕ
+  pub baseline : List ℕ
+
+unfoldable pub changedBy : AfterChange → LeftChanged
+changedBy o = record { answer = numberIn (o .answer); baseline = o .baseline }
+
+unfoldable pub coverOn : Rect → Bounds → Rect → (baseline : List ℕ) → LeftChanged
+coverOn w m r baseline = changedBy (coverCall w m r baseline)
+
+unfoldable pub liftOn : Rect → Bounds → Rect → (baseline : List ℕ) → LeftChanged
+liftOn w m r baseline = changedBy (liftCall w m r baseline)
 
 -- ---- a search
 -- what a call leaves: the answer and its index, the record's numbers, the areas

@@ -6,7 +6,7 @@ use lib.ListN.{length}
 use Rattle.ground_rects.specs.Windows.{centres}
 use Rattle.rule_routes.specs.Edges.{stepsOf}
 use Rattle.rule_layouts.specs.Explore as layouts
-use Rattle.set_cover.specs.Cover.{moverIn, coverOf}
+use Rattle.set_blocked.specs.Blocked.{moverIn, blockedMap}
 use Rattle.route_find.specs.Results as routing
 use Rattle.set_board.specs.Board.{flatBoard}
 use Rattle.set_board.proofs.Ready.{named-rows}
@@ -145,7 +145,7 @@ wall-of-requires c κs =
       (
         record { moving = record { slim = p .slim; bytes = p .bytes; named = named-rows (p .rows) }; allowed = p .allowed; rising = p .rising },
         (
-          t .ensures .1 .1 ∙ ap (coverOf block (centres (a .query .window))) (whole (a .set .now)),
+          t .ensures .1 .1 ∙ ap (blockedMap block (centres (a .query .window))) (whole (a .set .now)),
           ap (passed (a .query .window) (stepsOf (a .steps .now)) (a .start) (a .end) block) (sym (whole (a .set .now))) ∙ routed-none _ _ _ (rw (at-if1 .if1 .taken) at (t .ensures .0)),
         ),
       ),

@@ -8,7 +8,7 @@ use lib.ListN.{getD}
 use borrow.Author.Tests.{eq-eqb, ne-eqb, not-true, not-false}
 use Rattle.rule_routes.specs.Edges.{stepsOf}
 use Rattle.rule_layouts.specs.Boards.{Mover, leavesOpen}
-use Rattle.set_cover.specs.Cover.{coverOf}
+use Rattle.set_blocked.specs.Blocked.{blockedMap}
 use Rattle.route_find.specs.Ground.{openIn}
 use Rattle.route_find.specs.Results as routing
 use Rattle.set_board.specs.Board.{flatBoard}
@@ -18,11 +18,11 @@ use Rattle.set_explore.proofs.Evaluating.{explore-blocked, explore-spar
 use Rattle.set_explore.proofs.wall_of.Statement.{statement}
 use Rattle.set_explore.proofs.wall_of.Tie as tie
 
-closed : (m : Mover) (n : ℕ) (s cells : List ℕ) → cells ≡ coverOf m n s → (c : ℕ) → c < n → (getD cells c 0 ≡ 0 → ⊥) → leavesOpen m s c ≡ false
+closed : (m : Mover) (n : ℕ) (s cells : List ℕ) → cells ≡ blockedMap m n s → (c : ℕ) → c < n → (getD cells c 0 ≡ 0 → ⊥) → leavesOpen m s c ≡ false
 unfolding openIn
 closed m n s cells e c h k = sym (open-is m n s cells e c h) ∙ ne-eqb (getD cells c 0) 0 k
 
-opened : (m : Mover) (n : ℕ) (s cells : List ℕ) → cells ≡ coverOf m n s → (c : ℕ) → c < n → getD cells c 0 ≡ 0 → leavesOpen m s c ≡ true
+opened : (m : Mover) (n : ℕ) (s cells : List ℕ) → cells ≡ blockedMap m n s → (c : ℕ) → c < n → getD cells c 0 ≡ 0 → leavesOpen m s c ≡ true
 unfolding openIn
 opened m n s cells e c h k = sym (open-is m n s cells e c h) ∙ eq-eqb (getD cells c 0) 0 k
 

@@ -6,7 +6,7 @@ use native.Mathlib.Omega.{arith}
 use lib.ListN.{length}
 use borrow.Author.Tests.{not-true, not-false}
 use Rattle.rule_routes.specs.Edges.{stepsOf}
-use Rattle.set_cover.specs.Cover.{moverIn}
+use Rattle.set_blocked.specs.Blocked.{moverIn}
 use Rattle.set_pass.proofs.Passing.{lent-again}
 use Rattle.set_pass.proofs.Lifting.{Lifting, lifting-start, lifting-kept, lifting-more, lifting-stop, lifting-all}
 use Rattle.set_pass.proofs.is_minimal_block.Statement.{statement}

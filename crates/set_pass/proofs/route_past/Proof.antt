@@ -8,8 +8,8 @@ use lib.ListN.{length, replicate, take, length-replicate}
 use lib.Seq.{take-all}
 use Rattle.ground_rects.specs.Windows.{width, height, centres}
 use Rattle.rule_routes.specs.Edges.{stepsOf}
-use Rattle.set_cover.specs.Cover.{moverIn, withoutAt}
-use Rattle.set_cover.proofs.Covers.{length-cover}
+use Rattle.set_blocked.specs.Blocked.{moverIn, withoutAt}
+use Rattle.set_blocked.proofs.Members.{length-blocked}
 use Rattle.route_find.specs.Results.{RouteFound}
 use Rattle.set_pass.proofs.Passing.{past-is}
 use Rattle.set_pass.proofs.route_past.Statement.{statement}
@@ -79,7 +79,7 @@ route-requires c κs =
     let l = start .pre .0 in
     let w = start .args .window in
     let e : at-width .width .result * at-height .height .result ≡ width w * height w = rw (at-width .width .ensures .0, at-height .height .ensures .0) in
-    let size = ap (λ (l : List ℕ). length l) (at-blocked-for .blocked-for .ensures) ∙ length-cover _ (centres w) _ in
+    let size = ap (λ (l : List ℕ). length l) (at-blocked-for .blocked-for .ensures) ∙ length-blocked _ (centres w) _ in
     let room = ap (λ (l : List ℕ). length l) (l .routeClear) ∙ length-replicate {A = ℕ} (centres w) 0 in
     rw e (
       record { bytes = omega arith; small = omega (arith, l .few) },

@@ -3,7 +3,7 @@ use mathlib.Core.Path.{ap, _∙_}
 use Rattle.base_laws.specs.Lists.{isSome}
 use Rattle.ground_rects.specs.Windows.{centres}
 use Rattle.rule_routes.specs.Edges.{stepsOf}
-use Rattle.set_cover.specs.Cover.{coverOf, moverIn}
+use Rattle.set_blocked.specs.Blocked.{blockedMap, moverIn}
 use Rattle.set_pass.specs.Pass.{passed}
 use Rattle.set_pass.proofs.Passing.{whole}
 use Rattle.set_shut.proofs.is_open.Statement.{statement}
@@ -56,7 +56,7 @@ returns c =
     let m = moverIn (a .window) (a .edges .now) (a .mover) (a .base .now) in
     let t = lets-pass₄ at-predecessors .lets-pass in (
       t .ensures .0 ∙ ap (λ s. isSome (passed (a .window) (stepsOf (a .steps .now)) (a .start) (a .end) m s)) (whole (a .set .now)),
-      (t .ensures .1 .0, t .ensures .1 .1 ∙ ap (coverOf m (centres (a .window))) (whole (a .set .now))),
+      (t .ensures .1 .0, t .ensures .1 .1 ∙ ap (blockedMap m (centres (a .window))) (whole (a .set .now))),
     )
 
 pub is-open-spec : {M : Type 1} → statement M

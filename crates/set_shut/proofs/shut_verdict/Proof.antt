@@ -1,7 +1,7 @@
 -- `set_shut::shut_verdict` meets its contract, by whether the set is minimal and by whether the allowed mover passes.
 use mathlib.Core.Path.{_∙_}
 use Rattle.rule_routes.specs.Edges.{stepsOf}
-use Rattle.set_cover.specs.Cover.{moverIn, allowIn}
+use Rattle.set_blocked.specs.Blocked.{moverIn, allowIn}
 use Rattle.set_pass.proofs.Passing.{lent-again, kept-on}
 use Rattle.set_shut.proofs.Judging.{shut-spare, shut-shut, shut-wall}
 use Rattle.set_shut.proofs.shut_verdict.Statement.{statement}

@@ -2,7 +2,7 @@
 use mathlib.Core.Path.{_∙_}
 use native.Mathlib.Omega.{arith}
 use Rattle.rule_routes.specs.Edges.{stepsOf}
-use Rattle.set_cover.specs.Cover.{moverIn, allowIn}
+use Rattle.set_blocked.specs.Blocked.{moverIn, allowIn}
 use Rattle.set_pass.proofs.Passing.{lent-again, kept-on}
 use Rattle.set_verdict.proofs.Judging.{fit-covered, fit-open, fit-shut}
 use Rattle.set_verdict.proofs.fit_verdict.Statement.{statement}

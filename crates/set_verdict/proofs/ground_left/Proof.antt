@@ -6,7 +6,7 @@ use lib.ListN.{length, replicate, length-replicate}
 use Prim.Native.Nat.{ℕ}
 use Rattle.ground_rects.specs.Windows.{centres}
 use Rattle.ground_rects.proofs.Windows.{framed}
-use Rattle.set_cover.specs.Cover.{coverOf, moverIn}
+use Rattle.set_blocked.specs.Blocked.{blockedMap, moverIn}
 use Rattle.set_pass.proofs.Passing.{whole}
 use Rattle.set_verdict.proofs.Judging.{wiped-whole}
 use Rattle.set_verdict.proofs.Counting.{ground-flat}
@@ -69,7 +69,7 @@ returns c =
     let w = a .query .window in
     let b = blocked-for₄ (c .before) .blocked-for in (
       ground-flat (a .query) (a .edges .now) (a .block-base .now) (a .set .now) (b .last .1 .1 .1 .1 .1 .1 .0) (at-open-bytes .open-bytes .result)
-          (b .ensures ∙ ap (coverOf (moverIn w (a .edges .now) (a .query .block) (a .block-base .now)) (centres w)) (whole (a .set .now))) (at-open-bytes .open-bytes .ensures),
+          (b .ensures ∙ ap (blockedMap (moverIn w (a .edges .now) (a .query .block) (a .block-base .now)) (centres w)) (whole (a .set .now))) (at-open-bytes .open-bytes .ensures),
       c .before .before .clear-bytes .ensures ∙ wiped-whole (centres w) (b .last .1 .1 .1 .1 .1 .1 .0) (b .kept .1 .1 .1 .1 .1 .1 .0 ∙ size (centres w) (start .pre .clear)),
     )
 

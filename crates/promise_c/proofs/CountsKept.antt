@@ -1,0 +1,79 @@
+-- A C function over counts is the C function over their 0 and 1: its own checks look at a baseline's length alone, and behind them stands the call, for which this
+-- is proved.
+use Prim.Native.Nat.{ℕ}
+use mathlib.Core.Path.{_≡_, refl, ap}
+use mathlib.Core.List.{List}
+use Rattle.base_model.specs.Answers.{first}
+use Rattle.base_model.specs.declared.Limits.{Limits}
+use Rattle.rule_routes.specs.Edges.{eightSteps}
+use Rattle.rule_layouts.specs.Inputs.{Inputs}
+use Rattle.rule_calls.specs.Areas.{Work, Store, pointsLength, storeFits}
+use Rattle.rule_calls.specs.Checks.{groupChecks, placeChecks}
+use Rattle.rule_calls.specs.RecordCheck.{routesFit, stoodOn, listFits, recordFits}
+use Rattle.rule_calls.specs.Calls.{After, AfterJudge}
+use Rattle.promise_counts.specs.Counts.{withBases, onBits, SameCalls, CountsAsBits}
+use Rattle.promise_counts.proofs.SameCalls.{settled, query-same, counts-as-bits}
+use Rattle.walls_numbers.specs.Numbers.{recordFrom, judgedAnswer, judgedIndex, judgedVerdict, judgedGround}
+use Rattle.walls_numbers.specs.Left.{
+  LeftJudged,
+  leftBy,
+  numbersFit,
+  beginChecksOn,
+  beginOn,
+  stepChecksOn,
+  stepOn,
+  readChecksOn,
+  readOn,
+  judgeOn,
+}
+use Rattle.promise_c.specs.CountsOn.{CountsAsBitsOn}
+
+module _ (i : Inputs) where
+  calls : SameCalls eightSteps (onBits i) i
+  unfolding CountsAsBits
+  calls = counts-as-bits eightSteps i
+
+  -- ---- the checks
+  begin-asks : (l : Limits) (ns : List ℕ) (work : Work) (store : Store) → beginChecksOn (onBits i) l ns work store ≡ beginChecksOn i l ns work store
+  unfolding onBits withBases beginChecksOn groupChecks storeFits pointsLength
+  begin-asks l ns work store = rw (query-same i)
+
+  step-asks : (l : Limits) (ns : List ℕ) (work : Work) (store : Store) → stepChecksOn (onBits i) l ns work store ≡ stepChecksOn i l ns work store
+  unfolding onBits withBases stepChecksOn placeChecks numbersFit recordFits routesFit listFits stoodOn
+  step-asks l ns work store = rw begin-asks
+
+  read-asks : (l : Limits) (ns : List ℕ) (k : ℕ) (store : Store) → readChecksOn (onBits i) l ns k store ≡ readChecksOn i l ns k store
+  unfolding onBits withBases readChecksOn groupChecks storeFits pointsLength placeChecks numbersFit recordFits routesFit listFits stoodOn
+  read-asks l ns k store = rw (query-same i)
+
+  -- ---- what is left
+  begin-same : (l : Limits) (ns : List ℕ) (work : Work) (store : Store) → beginOn (onBits i) l ns work store ≡ beginOn i l ns work store
+  unfolding beginOn
+  begin-same l ns work store =
+      settled (ap first (begin-asks l ns work store)) (λ e. refl) (ap (λ (o : After). leftBy o ns) (calls .begin l work store))
+
+  step-same : (l : Limits) (ns : List ℕ) (n : ℕ) (work : Work) (store : Store) → stepOn (onBits i) l ns n work store ≡ stepOn i l ns n work store
+  unfolding stepOn
+  step-same l ns n work store =
+      settled (ap first (step-asks l ns work store)) (λ e. refl) (ap (λ (o : After). leftBy o ns) (calls .step l (recordFrom ns) n work store))
+
+  read-same : (l : Limits) (ns : List ℕ) (k : ℕ) (store : Store) → readOn (onBits i) l ns k store ≡ readOn i l ns k store
+  unfolding readOn
+  read-same l ns k store = rw read-asks
+
+  judged-by : AfterJudge → LeftJudged
+  judged-by o = record {
+    answer = judgedAnswer (o .answer);
+    index = judgedIndex (o .answer);
+    verdict = judgedVerdict (o .answer);
+    ground = judgedGround (o .answer);
+    work = o .work;
+  }
+
+  judge-same : (s : List ℕ) (work : Work) → judgeOn (onBits i) s work ≡ judgeOn i s work
+  unfolding judgeOn judged-by
+  judge-same s work = ap judged-by (calls .judge s work)
+
+pub counts-as-bits-c : CountsAsBitsOn
+unfolding CountsAsBitsOn
+counts-as-bits-c i = record { begin = begin-same i; step = step-same i; read = read-same i; judge = judge-same i }
