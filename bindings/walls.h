@@ -290,8 +290,10 @@ uint32_t hitrovzen_read(
     const uint32_t *points, size_t points_len,
     uint32_t *index, uint32_t *first, uint32_t *count);
 
-/* Tells what a selection of placements comes to (enum hitrovzen_verdict), and the ground left: how many centres are open to the
- * blocked mover. selection: at most 6 indexes of placements, strictly ascending.
+/* Tells what a selection of placements comes to (enum hitrovzen_verdict), and the ground left: to how many centres the blocked
+ * mover has a route from the start past the selection, the start among them. The ground is counted with every verdict; it is 0
+ * where the start is closed to the blocked mover, by its baseline or by a member.
+ * selection: at most 6 indexes of placements, strictly ascending.
  *
  * Refused, in this order, with 10, 2, 3, 4, 6, 14, 15, and 17 for what is no selection; verdict and ground are then 0. A refusal
  * leaves WORK as it was. */

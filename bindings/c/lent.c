@@ -1,5 +1,5 @@
-/* What walls.h says of lent areas, tried: how long each must be, that nothing past that is written, and what refusals leave. The case
- * is that of example.c. Prints how many statements held, and each that did not. */
+/* What walls.h says of lent areas, tried: how long each must be, that nothing past that is written, and what refusals leave; and what
+ * it says of the ground left. The case is that of example.c. Prints how many statements held, and each that did not. */
 #include <inttypes.h>
 #include <stdio.h>
 #include <string.h>
@@ -7,7 +7,8 @@
 #include "walls.h"
 
 #define WINDOW 0, 0, 7, 6
-#define ENDS 1, 2, 5, 2
+#define END 5, 2
+#define ENDS 1, 2, END
 #define BLOCK 1, 1, 1, 1
 #define ALLOW 0, 0, 0, 0
 #define QUERY WINDOW, ENDS, BLOCK, 1, ALLOW
@@ -88,10 +89,12 @@ static uint32_t read(uint32_t k) {
     return hitrovzen_read(QUERY, states, RESULTS, PLACES, BASES, record, told[RECORD], k, STORE, &index_, &first, &count);
 }
 
-static uint32_t judge(void) {
+static uint32_t judge_from(uint32_t x, uint32_t y) {
     verdict = ground = 99;
-    return hitrovzen_judge(QUERY, PLACES, BASES, HITROVZEN_ARRAY(selection), WORK, &index_, &verdict, &ground);
+    return hitrovzen_judge(WINDOW, x, y, END, BLOCK, 1, ALLOW, PLACES, BASES, HITROVZEN_ARRAY(selection), WORK, &index_, &verdict, &ground);
 }
+
+static uint32_t judge(void) { return judge_from(1, 2); }
 
 /* A mover that reaches differently far to each side, and a post that keeps it off eight centres: columns 1 to 4 of rows 1 and 2. */
 #define MOVER 1, 0, 2, 1
@@ -186,7 +189,7 @@ static void search(void) {
     holds(step(STATES) == 0 && record[HITROVZEN_REASON] == HITROVZEN_EXHAUSTED, "the search is exhausted", "step");
     holds(record[HITROVZEN_LAYOUTS] == 3 && layouts[0] == 1 && layouts[1] == 0, "three walls, the first of placement 0", "layouts");
     soil(1);
-    holds(judge() == 0 && verdict == HITROVZEN_WALL && ground == 15, "placement 0 is a wall", "judge");
+    holds(judge() == 0 && verdict == HITROVZEN_WALL && ground == 5, "placement 0 is a wall", "judge");
     work_is_zero("working areas are zero after judging");
     for (int a = 0; a < AREAS; a++) holds(filled(a, 1, 0xA5), "nothing past the needed length is written", areas[a].name);
     for (int a = 0; a < AREAS; a++) told[a] = areas[a].length - SPARE;
@@ -197,6 +200,16 @@ static void search(void) {
     holds(points[2 * (first + count) - 2] == 5 && points[2 * (first + count) - 1] == 2, "and ends at the end", "read");
     all_as_kept("a stopped search stays as it is");
     whole();
+}
+
+/* The map's edge closes column 0 and row 0 and placement 0 columns 2 to 4: five centres are left before it, ten behind it. */
+static void ground_left(void) {
+    holds(judge() == 0 && verdict == HITROVZEN_WALL && ground == 5, "the ground is counted up to the wall", "judge");
+    holds(judge_from(6, 5) == 0 && verdict == HITROVZEN_OPEN && ground == 10, "and from a start behind it the ground behind it", "judge");
+    holds(judge_from(3, 2) == 0 && verdict == HITROVZEN_END_COVERED && ground == 0, "a start under a member leaves none", "judge");
+    holds(cover() == 0 && judge() == 0 && verdict == HITROVZEN_END_COVERED && ground == 0, "nor does one that is covered", "judge");
+    holds(lift() == 0 && judge() == 0 && verdict == HITROVZEN_WALL && ground == 5, "and a lift brings it back", "judge");
+    work_is_zero("working areas are zero after each of these");
 }
 
 /* Each area one element too short, in turn: 6 from the calls that take it, which write nothing. */
@@ -340,6 +353,7 @@ int main(void) {
     whole();
     lengths();
     search();
+    ground_left();
     too_short();
     refusals();
     counted();

@@ -4,22 +4,25 @@
 //! line appended to the latter. That line names the module `probe` (its text is
 //! `src/walls/search/probe.rs`), which sets and reads the search's private fields. `grid` holds
 //! pieces of the original `lib.rs`. Everything else here is the judge's own: [`case`] says what a
-//! search is given, [`domain`] which calls are accepted, [`run`] makes the calls, and
-//! [`directed`], [`generate`] and [`list`] make the searches whose answers [`text`] writes.
+//! search is given, [`domain`] which calls are accepted, [`run`] makes the calls, [`verdict`] and
+//! [`ground`] judge a selection, and [`directed`], [`generate`] and [`list`] make the searches whose
+//! answers [`text`] writes.
 
 pub mod case;
 pub mod count;
 pub mod directed;
 pub mod domain;
 pub mod generate;
+pub mod ground;
 pub mod list;
 pub mod maps;
 pub mod run;
-pub mod sheet;
 pub mod sha256;
+pub mod sheet;
 mod stand_ins;
 pub mod stored;
 pub mod text;
+pub mod verdict;
 
 pub use case::{Bounds, Case, Layout, List, Mover, Placement, Reason, Rect, Snapshot};
 pub use run::{Baselines, Search, prepare};

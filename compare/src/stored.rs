@@ -7,7 +7,7 @@ use crate::case::{Case, Mover, Placement, Rect, Snapshot};
 use crate::list::Item;
 use crate::run::{Baselines, Search, prepare};
 use crate::walls::search::probe;
-use crate::{directed, domain, generate, maps};
+use crate::{directed, domain, generate, ground, maps, verdict};
 
 /// One search with the selections that are judged after it.
 #[derive(Debug, Clone)]
@@ -463,8 +463,7 @@ fn digest(start: u32, numbers: impl IntoIterator<Item = u32>) -> u32 {
     })
 }
 
-/// The judgement, from the original's own functions: the answer, then the first verdict that
-/// holds (Slots 1 to Wall 7) and the ground left.
+/// The judgement: the answer, then the verdict's number and the ground left.
 fn judged(search: &Search, set: &[u32]) -> String {
     let (case, original) = (search.case(), search.original());
     let places = case.placements.len();
@@ -473,41 +472,9 @@ fn judged(search: &Search, set: &[u32]) -> String {
         return String::from("17");
     }
     let block = probe::cover(original, Mover::Block, set).expect("the blocked mover");
-    let ground = block.iter().filter(|&&off| !off).count();
-    format!("0 {} {ground}", verdict(search, set, &block))
-}
-
-fn verdict(search: &Search, set: &[u32], block: &[bool]) -> u32 {
-    let (case, original) = (search.case(), search.original());
-    let used = |group: usize| {
-        let same = |&&member: &&u32| case.placements[member as usize].group as usize == group;
-        set.iter().filter(same).count()
-    };
-    if (0..case.groups.len()).any(|group| used(group) > case.groups[group] as usize) {
-        return 1;
-    }
-    let overlaps =
-        |(k, &a): (usize, &u32)| set[..k].iter().any(|&b| probe::overlap(original, a, b));
-    if set.iter().enumerate().any(overlaps) {
-        return 2;
-    }
-    let number = |(x, y): (u32, u32)| {
-        let (x, y) = (x as i32 - case.window.left, y as i32 - case.window.top);
-        y as usize * case.window.width() as usize + x as usize
-    };
-    if block[number(case.start)] || block[number(case.end)] {
-        return 3;
-    }
-    if probe::route_past(original, Mover::Block, set).is_some() {
-        return 4;
-    }
-    if !probe::is_minimal(original, set) {
-        return 5;
-    }
-    if case.allow.is_some() && probe::route_past(original, Mover::Allow, set).is_none() {
-        return 6;
-    }
-    7
+    let number = verdict::number(case, original, set, &block);
+    let ground = ground::reached(&block, case.window, case.start);
+    format!("0 {number} {ground}")
 }
 
 /// How many lines of each kind an output has, and how many searches last stood at each reason.

@@ -2,6 +2,7 @@
 
 use judge::Reason::{self, Exhausted, ResultLimit, Running, StateLimit};
 use judge::directed::{corners, marked, p};
+use judge::ground::reached;
 use judge::list::answer;
 use judge::walls::search::probe;
 use judge::{Case, Mover, Search, Snapshot};
@@ -46,21 +47,23 @@ fn p_and_its_variants() {
     );
 }
 
-/// The original judges no selections; the parts of which a verdict is made are at hand.
+/// The original judges no selections; the parts of which a verdict is made are at hand, and the ground
+/// is flooded.
 #[test]
 fn selections_of_p() {
     let search = Search::begin(&p()).expect("P");
     let original = search.original();
-    let open = |set: &[u32]| {
+    let ground = |set: &[u32]| {
         let cover = probe::cover(original, Mover::Block, set).expect("blocked mover");
-        cover.iter().filter(|&&off| !off).count()
+        reached(&cover, p().window, p().start)
     };
     assert!(probe::route_past(original, Mover::Block, &[]).is_some());
-    assert_eq!(open(&[]), 15);
+    assert_eq!(ground(&[]), 15);
     assert!(probe::route_past(original, Mover::Block, &[0]).is_none());
     assert!(probe::is_minimal(original, &[0]));
-    assert_eq!(open(&[0]), 12);
+    assert_eq!(ground(&[0]), 6);
     assert!(probe::overlap(original, 0, 1));
+    assert_eq!(ground(&[0, 1]), 6);
 }
 
 #[test]

@@ -80,6 +80,7 @@ impl fmt::Display for Verdict {
 pub struct Judgement {
     /// What the selection comes to.
     pub verdict: Verdict,
-    /// The ground left: how many centres are open to the blocked mover.
+    /// The ground left, counted with every verdict: to how many centres the blocked mover has a route from the start past the
+    /// selection, the start among them. 0 where the start is closed to the blocked mover, by its baseline or by a member.
     pub ground: u32,
 }

@@ -31,6 +31,9 @@ use crate::{
 /// let planner = Planner::new(plan)?;
 /// assert_eq!(planner.judge(&[0])?.verdict, Verdict::Wall);
 /// assert_eq!(planner.judge(&[1])?.verdict, Verdict::Open);
+///
+/// // the ground that can be reached from the start: up to the wall, and all that the other post leaves
+/// assert_eq!(planner.judge(&[0])?.ground, 6);
 /// assert_eq!(planner.judge(&[1])?.ground, 13);
 ///
 /// let mut search = planner.search(Limits::WIDEST)?;
@@ -249,8 +252,8 @@ impl Planner {
         Search::begun(self, limits, record, store)
     }
 
-    /// Tells what a selection of placements comes to, and how much ground it leaves. A selection is at most 6 indexes of
-    /// placements, strictly ascending.
+    /// Tells what a selection of placements comes to, and how much ground it leaves: to how many centres the blocked mover has a
+    /// route from the start. A selection is at most 6 indexes of placements, strictly ascending.
     ///
     /// # Errors
     ///

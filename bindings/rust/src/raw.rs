@@ -238,7 +238,7 @@ extern "C" {
         count: *mut u32,
     ) -> u32;
 
-    /// Tells what a selection of placements comes to, and how much ground it leaves.
+    /// Tells what a selection of placements comes to, and to how many centres the blocked mover then has a route from the start.
     pub fn hitrovzen_judge(
         window_left: i32,
         window_top: i32,

@@ -244,7 +244,7 @@ impl Plan {
         }
     }
 
-    /// The same plan from end to start. It has the same walls.
+    /// The same plan from end to start. It has the same walls; the ground that a selection leaves is counted from the other end.
     ///
     /// ```
     /// use hitrovzen::{Bounds, Map, Plan, Position, Rect};

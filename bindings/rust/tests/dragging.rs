@@ -1,7 +1,8 @@
 //! Cover and lift: which counts they alter, for both movers or for neither, and what searches and judgements make of the counts.
 
 use hitrovzen::{
-    Bounds, Kind, Limits, Map, Mover, Placement, Plan, Planner, Position, Rect, Refusal, Verdict,
+    Bounds, Judgement, Kind, Limits, Map, Mover, Placement, Plan, Planner, Position, Rect, Refusal,
+    Verdict,
 };
 
 const WINDOW: Rect = Rect::new(2, 1, 11, 8);
@@ -201,25 +202,22 @@ fn counts_above_one_are_searched_and_judged_as_one() {
     assert_eq!(selections.map(|selection| planner.judge(selection)), once);
 }
 
-/// A building on an end, or across the way, is met by the next search, and is gone once it is lifted.
+/// A building on an end, or across the way, is met by the next search, and is gone once it is lifted. The blocked mover has six rows
+/// of nine centres, for the map's edge keeps it off the first: the building on the end takes nine of them and parts none from the
+/// others, the one across the way leaves the start two columns.
 #[test]
 fn a_search_begins_on_the_counts_as_they_are() {
     let mut planner = planner();
     let first = walls(&planner).unwrap();
-    for (building, number) in [
-        (Rect::new(3, 4, 4, 5), 7),
-        (Rect::new(9, 4, 10, 5), 8),
-        (Rect::new(6, 0, 7, 16), 9),
+    for (building, number, verdict, ground) in [
+        (Rect::new(3, 4, 4, 5), 7, Verdict::EndCovered, 0),
+        (Rect::new(9, 4, 10, 5), 8, Verdict::EndCovered, 45),
+        (Rect::new(6, 0, 7, 16), 9, Verdict::Shut, 12),
     ] {
         planner.cover(building).unwrap();
         let refusal = walls(&planner).unwrap_err();
         assert_eq!((refusal.number(), refusal.mover()), (number, None));
-        let verdict = planner.judge(&[]).unwrap().verdict;
-        let meant = match number {
-            9 => Verdict::Shut,
-            _ => Verdict::EndCovered,
-        };
-        assert_eq!(verdict, meant);
+        assert_eq!(planner.judge(&[]), Ok(Judgement { verdict, ground }));
         planner.lift(building).unwrap();
         assert_eq!(walls(&planner).as_ref(), Ok(&first));
     }

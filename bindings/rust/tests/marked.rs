@@ -120,8 +120,8 @@ fn judgements() {
     let planner = Planner::new(p()).unwrap();
     let judged = |verdict, ground| Ok(Judgement { verdict, ground });
     assert_eq!(planner.judge(&[]), judged(Verdict::Open, 15));
-    assert_eq!(planner.judge(&[0]), judged(Verdict::Wall, 12));
-    assert_eq!(planner.judge(&[0, 1]).unwrap().verdict, Verdict::Overlap);
+    assert_eq!(planner.judge(&[0]), judged(Verdict::Wall, 6));
+    assert_eq!(planner.judge(&[0, 1]), judged(Verdict::Overlap, 6));
 }
 
 #[test]

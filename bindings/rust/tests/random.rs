@@ -1,6 +1,6 @@
-//! Plans drawn at random: the walls listed are those found by judging every selection, raised limits leave the walls found before
-//! at the top, rocks that are covered are as good as obstacles and are gone once they are lifted, and no input, however wild, ends in
-//! anything but an answer.
+//! Plans drawn at random: the walls listed are those found by judging every selection, the ground judged is what steps from the start
+//! come to, raised limits leave the walls found before at the top, rocks that are covered are as good as obstacles and are gone once
+//! they are lifted, and no input, however wild, ends in anything but an answer.
 
 use std::collections::BTreeSet;
 
@@ -60,11 +60,15 @@ fn small(dice: &mut Dice) -> Plan {
     plan
 }
 
-/// Every set of at most six placements that the planner judges to be a wall.
-fn judged(planner: &Planner) -> BTreeSet<Vec<u16>> {
+/// Every set of the placements, of which there are at most six.
+fn selections(planner: &Planner) -> impl Iterator<Item = Vec<u16>> {
     let count = planner.plan().placements.len() as u16;
-    (0..1_u32 << count)
-        .map(|set| (0..count).filter(|i| set >> i & 1 == 1).collect::<Vec<_>>())
+    (0..1_u32 << count).map(move |set| (0..count).filter(|i| set >> i & 1 == 1).collect())
+}
+
+/// Every set of placements that the planner judges to be a wall.
+fn judged(planner: &Planner) -> BTreeSet<Vec<u16>> {
+    selections(planner)
         .filter(|set| planner.judge(set).unwrap().verdict == Verdict::Wall)
         .collect()
 }
@@ -112,6 +116,74 @@ fn the_walls_listed_are_those_judged() {
     assert!(searches > 1_000, "{searches}");
     assert!(walls > 500, "{walls}");
     assert!(larger > 100, "{larger}");
+}
+
+/// The centres that a selection leaves open to the blocked mover.
+fn open(planner: &Planner, selection: &[u16]) -> BTreeSet<(i32, i32)> {
+    let plan = planner.plan();
+    let (window, block) = (plan.window, plan.block);
+    let off = |r: Rect, x: i32, y: i32| {
+        (r.left - block.right as i32..r.right + block.left as i32).contains(&x)
+            && (r.top - block.bottom as i32..r.bottom + block.top as i32).contains(&y)
+    };
+    let member_off = |x, y| {
+        let mut members = selection.iter().map(|i| &plan.placements[usize::from(*i)]);
+        members.any(|member| off(member.collision, x, y))
+    };
+    (window.top..window.bottom)
+        .flat_map(|y| (window.left..window.right).map(move |x| (x, y)))
+        .zip(planner.baseline(Mover::Block))
+        .filter(|((x, y), count)| **count == 0 && !member_off(*x, *y))
+        .map(|(centre, _)| centre)
+        .collect()
+}
+
+/// How many of the open centres steps lead to from the start. The side centres of a straight step are its own two.
+fn reached(start: Position, open: &BTreeSet<(i32, i32)>) -> usize {
+    let mut found = BTreeSet::new();
+    let mut ahead = vec![(start.x as i32, start.y as i32)];
+    ahead.retain(|start| open.contains(start));
+    while let Some((x, y)) = ahead.pop() {
+        if !found.insert((x, y)) {
+            continue;
+        }
+        let around = (x - 1..=x + 1).flat_map(|to_x| (y - 1..=y + 1).map(move |to_y| (to_x, to_y)));
+        let taken = |(to_x, to_y): &(i32, i32)| {
+            let needed = [(*to_x, *to_y), (*to_x, y), (x, *to_y)];
+            needed.iter().all(|centre| open.contains(centre))
+        };
+        ahead.extend(around.filter(taken));
+    }
+    found.len()
+}
+
+#[test]
+fn the_ground_judged_is_what_the_start_reaches() {
+    let mut dice = Dice(20_261_118);
+    let (mut none, mut part, mut all) = (0, 0, 0);
+    for _ in 0..500 {
+        let (plan, rocks) = (small(&mut dice), rocks(&mut dice));
+        let plan = dice.one_of(&[Plan::reversed, |plan| plan])(plan);
+        let Ok(mut planner) = Planner::new(plan) else {
+            continue;
+        };
+        for rock in &rocks {
+            planner.cover(*rock).unwrap();
+        }
+        for selection in selections(&planner) {
+            let open = open(&planner, &selection);
+            let ground = reached(planner.plan().start, &open);
+            let judgement = planner.judge(&selection).unwrap();
+            let plan = planner.plan();
+            assert_eq!(judgement.ground as usize, ground, "{selection:?} {plan:?}");
+            none += usize::from(ground == 0);
+            part += usize::from(0 < ground && ground < open.len());
+            all += usize::from(ground == open.len());
+        }
+    }
+    assert!(none > 1_000, "{none}");
+    assert!(part > 1_000, "{part}");
+    assert!(all > 1_000, "{all}");
 }
 
 /// The members of a layout and the route past it.

@@ -1,9 +1,9 @@
 //! Times the original search and its port: same inputs, same driver, in turn. A line a case.
 //!
-//! `bench` prints the lines, `bench --markdown` the rows of the table in docs/PERFORMANCE.md. `bench --only TEXT` takes the cases whose name or
-//! window has the text, so `bench --only drag` those of cover and lift; `bench --only TEXT --port` and `--original` run one side once, for a
-//! profiler. `--cpu` takes the processor's time of this thread in place of the time on the wall: on a machine that does other work too, what it
-//! does meanwhile is then left out.
+//! `bench` prints the lines, `bench --markdown` the rows of the table in docs/PERFORMANCE.md. `bench --only TEXT` takes the cases whose
+//! name or window has the text, so `bench --only drag` those of cover and lift and `bench --only judge` those of judging. With `--port` or
+//! `--original` besides it runs one side once, for a profiler. `--cpu` takes the processor's time of this thread in place of the time on
+//! the wall: on a machine that does other work too, what it does meanwhile is then left out.
 
 mod clock;
 mod inputs;
@@ -194,21 +194,20 @@ fn drags(size: Size) -> Vec<Line> {
     ]
 }
 
-fn window((width, height): Size) -> String {
-    format!("{width} × {height}")
+/// A selection that leaves a way, and a wall, which is the costliest verdict: each of its members is lifted once.
+fn judgings(size: Size) -> Vec<Line> {
+    let judge = |name, members: u16| {
+        let work = Work::Judge((0..members).collect());
+        line(name, size, inputs::barrier, work, Buffers::AsLeft)
+    };
+    vec![
+        judge("judge, five members", 5),
+        judge("judge, six members that are a wall", 6),
+    ]
 }
 
-/// What a line did, so that a reader sees what was compared.
-fn done(measured: &Measured) -> String {
-    match &measured.outcome {
-        None => "-".into(),
-        Some(outcome) => format!(
-            "{:?} {}, {} layouts",
-            outcome.reason,
-            outcome.evaluations,
-            outcome.layouts.len()
-        ),
-    }
+fn window((width, height): Size) -> String {
+    format!("{width} × {height}")
 }
 
 fn ratio(ratio: f64) -> String {
@@ -226,9 +225,9 @@ fn tell(line: &Line, measured: &Measured, markdown: bool) {
         original,
         runs,
         repeats: [calls, others],
-        ..
+        done,
     } = measured;
-    let (done, ratio) = (done(measured), ratio(port / original));
+    let ratio = ratio(port / original);
     let repeats = if calls == others {
         calls.to_string()
     } else {
@@ -257,7 +256,8 @@ fn main() {
         .flat_map(at_every_size)
         .chain([MIDDLE, LARGE].into_iter().flat_map(winding))
         .chain(many_on_small())
-        .chain([MIDDLE, LARGE].into_iter().flat_map(drags));
+        .chain([MIDDLE, LARGE].into_iter().flat_map(drags))
+        .chain([SMALL, MIDDLE, LARGE].into_iter().flat_map(judgings));
     if has("--cpu") {
         clock::take_processor_time();
     }

@@ -9,7 +9,7 @@ use crate::clock;
 use crate::inputs::Size;
 use crate::original::Original;
 use crate::port::Port;
-use crate::side::{Buffers, Outcome, Side};
+use crate::side::{Buffers, Side};
 
 pub enum Work {
     Prepare,
@@ -25,6 +25,8 @@ pub enum Work {
         from: Rect,
         to: Rect,
     },
+    /// A selection judged.
+    Judge(Vec<u16>),
 }
 
 pub struct Line {
@@ -42,7 +44,8 @@ pub struct Measured {
     pub runs: usize,
     /// Of the port's call and of the original's.
     pub repeats: [u32; 2],
-    pub outcome: Option<Outcome>,
+    /// What both came to, in words.
+    pub done: String,
 }
 
 /// The timed part alone: what comes before it makes ready.
@@ -74,6 +77,11 @@ pub fn timed(side: &mut dyn Side, line: &Line) -> Duration {
             side.stand(from, to);
             clock(|| side.drag(from, to))
         }
+        Work::Judge(selection) => {
+            side.begin();
+            side.lend(line.buffers);
+            clock(|| side.judge(selection))
+        }
     }
 }
 
@@ -102,34 +110,40 @@ fn median(mut times: Vec<f64>) -> f64 {
     times[times.len() / 2]
 }
 
-/// The results of both, which must be the same. `whole` compares the visited sets as well.
-fn compared(port: &dyn Side, original: &dyn Side, line: &Line, whole: bool) -> Option<Outcome> {
+/// What both came to, in words; it must be the same. `whole` compares the visited sets as well.
+fn compared(port: &dyn Side, original: &dyn Side, line: &Line, whole: bool) -> String {
     let name = &line.name;
-    if matches!(line.work, Work::Prepare | Work::Drag { .. }) {
-        assert!(
-            port.baseline() == original.baseline(),
-            "{name}: two baselines"
-        );
-        return None;
+    match line.work {
+        Work::Prepare | Work::Drag { .. } => {
+            let same = port.baseline() == original.baseline();
+            assert!(same, "{name}: two baselines");
+            "-".into()
+        }
+        Work::Judge(_) => {
+            let judged = port.judged();
+            assert_eq!(judged, original.judged(), "{name}: two judgements");
+            judged.to_string()
+        }
+        Work::Begin | Work::Steps { .. } => {
+            let outcome = port.outcome();
+            assert!(outcome == original.outcome(), "{name}: two outcomes");
+            if whole {
+                compare_visited(port, original, name, outcome.evaluations as usize);
+            }
+            outcome.to_string()
+        }
     }
-    let outcome = port.outcome();
-    assert!(outcome == original.outcome(), "{name}: two outcomes");
-    if whole {
-        let rows: HashSet<_> = port.visited().into_iter().collect();
-        assert!(
-            rows.len() == outcome.evaluations as usize,
-            "{name}: a set visited twice"
-        );
-        assert!(
-            rows == original.visited().into_iter().collect(),
-            "{name}: two visited sets"
-        );
-    }
-    Some(outcome)
 }
 
-/// How often the port's call and the original's are repeated in a run. A drag is so much shorter than the preparing beside it that each has a
-/// number of its own; all else is repeated equally often.
+fn compare_visited(port: &dyn Side, original: &dyn Side, name: &str, evaluations: usize) {
+    let rows: HashSet<_> = port.visited().into_iter().collect();
+    assert!(rows.len() == evaluations, "{name}: a set visited twice");
+    let others = original.visited().into_iter().collect();
+    assert!(rows == others, "{name}: two visited sets");
+}
+
+/// How often the port's call and the original's are repeated in a run. A drag is so much shorter than the preparing beside it that each
+/// has a number of its own; all else is repeated equally often.
 fn repeats(line: &Line, first: [f64; 2]) -> [u32; 2] {
     let often = |time: f64| (50.0 / time).clamp(1.0, 500.0) as u32;
     match line.work {
@@ -138,11 +152,11 @@ fn repeats(line: &Line, first: [f64; 2]) -> [u32; 2] {
     }
 }
 
-/// The first pair tells how often a call is repeated in a run and how many runs there are: 9, 5 where the pair takes above half a second, 3 above
-/// two seconds; above eight the pair is all.
+/// The first pair tells how often a call is repeated in a run and how many runs there are: 9, 5 where the pair takes above half a second,
+/// 3 above two seconds; above eight the pair is all.
 pub fn measure(port: &mut Port, original: &mut Original, line: &Line) -> Measured {
     let first = [timed(port, line), timed(original, line)].map(|time| time.as_secs_f64() * 1e3);
-    let outcome = compared(port, original, line, true);
+    let done = compared(port, original, line, true);
     let pair = first[0] + first[1];
     let repeats = repeats(line, first);
     let runs = match pair {
@@ -166,6 +180,6 @@ pub fn measure(port: &mut Port, original: &mut Original, line: &Line) -> Measure
         port: median(port),
         original: median(original),
         repeats,
-        outcome,
+        done,
     }
 }

@@ -1,9 +1,9 @@
 //! The original, driven through the judge's probe. Its visited sets have no order and none is noted.
 
 use judge::walls::search::{WallSearch, probe};
-use judge::{Baselines, Case, PixelRect, Rect, Snapshot, TerrainGrid};
+use judge::{Baselines, Case, Mover, PixelRect, Rect, Snapshot, TerrainGrid, ground, verdict};
 
-use crate::side::{Buffers, Outcome, Side};
+use crate::side::{Buffers, Judged, Outcome, Side};
 
 pub struct Original<'a> {
     case: &'a Case,
@@ -14,6 +14,23 @@ pub struct Original<'a> {
     with_building: Vec<PixelRect>,
     made: Option<Vec<bool>>,
     search: Option<WallSearch>,
+    /// The case as `walk` takes it.
+    deeper: Case,
+    /// The selection last judged, and its verdict.
+    judged: Option<(Vec<u32>, u32)>,
+}
+
+/// The case with the window two rows higher and the end in the last row.
+fn deeper(case: &Case) -> Case {
+    let bottom = case.window.bottom + 2;
+    Case {
+        window: Rect {
+            bottom,
+            ..case.window
+        },
+        end: (case.window.left as u32, bottom as u32 - 1),
+        ..case.clone()
+    }
 }
 
 impl<'a> Original<'a> {
@@ -26,6 +43,8 @@ impl<'a> Original<'a> {
             with_building: Vec::new(),
             made: None,
             search: None,
+            deeper: deeper(case),
+            judged: None,
         }
     }
 
@@ -36,6 +55,20 @@ impl<'a> Original<'a> {
 
     fn held(&self) -> &WallSearch {
         self.search.as_ref().expect("a search that was begun")
+    }
+
+    fn cover(&self, set: &[u32]) -> Vec<bool> {
+        probe::cover(self.held(), Mover::Block, set).expect("the blocked mover")
+    }
+
+    /// Walks over all the ground that the start is joined with: looks for a route to an open row below
+    /// the window, which a closed row keeps apart, and finds none.
+    fn walk(&self, mut cover: Vec<bool>) {
+        let width = self.case.window.width() as usize;
+        cover.resize(cover.len() + width, true);
+        cover.resize(cover.len() + width, false);
+        let answer = probe::ends_joined(&self.deeper, &cover);
+        assert_eq!(answer, Err(9), "a row that is kept apart");
     }
 }
 
@@ -86,8 +119,27 @@ impl Side for Original<'_> {
         self.made = Some(made.expect("an accepted prepare"));
     }
 
+    /// The verdict, put together from the original's functions, and a walk over the ground by its search for
+    /// a route. How many centres these are it does not tell.
+    fn judge(&mut self, selection: &[u16]) {
+        let set: Vec<u32> = selection.iter().map(|&member| u32::from(member)).collect();
+        let cover = self.cover(&set);
+        let number = verdict::number(self.case, self.held(), &set, &cover);
+        self.walk(cover);
+        self.judged = Some((set, number));
+    }
+
     fn baseline(&self) -> Vec<bool> {
         self.made.clone().expect("a baseline that was prepared")
+    }
+
+    /// With the ground flooded by the judge.
+    fn judged(&self) -> Judged {
+        let (set, verdict) = self.judged.as_ref().expect("a judged selection");
+        Judged {
+            verdict: *verdict,
+            ground: ground::reached(&self.cover(set), self.case.window, self.case.start),
+        }
     }
 
     fn outcome(&self) -> Outcome {

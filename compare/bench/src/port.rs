@@ -3,7 +3,7 @@
 use hitrovzen::raw;
 use judge::{Baselines, Bounds, Case, Layout, Reason, Rect, Snapshot};
 
-use crate::side::{Buffers, Outcome, Side};
+use crate::side::{Buffers, Judged, Outcome, Side};
 
 const RECORD: usize = 50;
 const ROUTES: usize = 6;
@@ -32,6 +32,7 @@ pub struct Port<'a> {
     points: Vec<u32>,
     /// Where a dragged building stands, once `baseline` holds the counts of a drag.
     standing: Option<Rect>,
+    judged: Judged,
 }
 
 /// Cover and lift: window, mover, rectangle, baseline.
@@ -95,6 +96,10 @@ impl<'a> Port<'a> {
             layouts: vec![0; ROW * case.results as usize],
             points: vec![0; points],
             standing: None,
+            judged: Judged {
+                verdict: 0,
+                ground: 0,
+            },
         }
     }
 
@@ -389,8 +394,73 @@ impl Side for Port<'_> {
         self.standing = Some(to);
     }
 
+    fn judge(&mut self, selection: &[u16]) {
+        let Case {
+            window,
+            start,
+            end,
+            block,
+            groups,
+            ..
+        } = self.case;
+        let (given, allow) = self.allow();
+        let mut index = 0;
+        // As in prepare.
+        let answer = unsafe {
+            raw::hitrovzen_judge(
+                window.left,
+                window.top,
+                window.right,
+                window.bottom,
+                start.0,
+                start.1,
+                end.0,
+                end.1,
+                block.left,
+                block.top,
+                block.right,
+                block.bottom,
+                given,
+                allow.left,
+                allow.top,
+                allow.right,
+                allow.bottom,
+                groups.as_ptr(),
+                groups.len(),
+                self.numbers.as_ptr(),
+                self.numbers.len(),
+                self.edges.as_ptr(),
+                self.edges.len(),
+                self.block_base.as_ptr(),
+                self.block_base.len(),
+                self.allow_base.as_ptr(),
+                self.allow_base.len(),
+                selection.as_ptr(),
+                selection.len(),
+                self.counts.as_mut_ptr(),
+                self.counts.len(),
+                self.map.as_mut_ptr(),
+                self.map.len(),
+                self.queue.as_mut_ptr(),
+                self.queue.len(),
+                self.predecessors.as_mut_ptr(),
+                self.predecessors.len(),
+                self.route.as_mut_ptr(),
+                self.route.len(),
+                &mut index,
+                &mut self.judged.verdict,
+                &mut self.judged.ground,
+            )
+        };
+        assert_eq!(answer, 0, "an accepted judging");
+    }
+
     fn baseline(&self) -> Vec<bool> {
         self.baseline.iter().map(|&count| count != 0).collect()
+    }
+
+    fn judged(&self) -> Judged {
+        self.judged
     }
 
     fn outcome(&self) -> Outcome {

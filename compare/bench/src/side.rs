@@ -1,6 +1,8 @@
 //! What the driver asks of both searches.
 
-use judge::{Layout, Reason, Rect, Snapshot};
+use std::fmt;
+
+use judge::{Layout, Reason, Rect, Snapshot, verdict};
 
 /// What a call is timed by: the original or the port. Every timed call is made through these.
 pub trait Side {
@@ -29,7 +31,14 @@ pub trait Side {
     /// The ground with the building at `to` in its place. The original has no cover and no lift: it prepares anew.
     fn drag(&mut self, from: Rect, to: Rect);
 
+    /// Judges a selection. The original judges none and counts no ground: the verdict is put together from its functions, and it walks over
+    /// the ground.
+    fn judge(&mut self, selection: &[u16]);
+
     fn baseline(&self) -> Vec<bool>;
+
+    /// What the selection last judged comes to.
+    fn judged(&self) -> Judged;
 
     fn outcome(&self) -> Outcome;
 
@@ -63,4 +72,30 @@ pub struct Outcome {
     pub reason: Reason,
     pub evaluations: u32,
     pub layouts: Vec<Layout>,
+}
+
+impl fmt::Display for Outcome {
+    fn fmt(&self, f: &mut fmt::Formatter<'_>) -> fmt::Result {
+        let (reason, evaluations) = (self.reason, self.evaluations);
+        write!(
+            f,
+            "{reason:?} {evaluations}, {} layouts",
+            self.layouts.len()
+        )
+    }
+}
+
+/// What both must agree in after judging.
+#[derive(Debug, Clone, Copy, Eq, PartialEq)]
+pub struct Judged {
+    /// The verdict's number, from 1 on.
+    pub verdict: u32,
+    pub ground: u32,
+}
+
+impl fmt::Display for Judged {
+    fn fmt(&self, f: &mut fmt::Formatter<'_>) -> fmt::Result {
+        let name = verdict::NAMES[self.verdict as usize - 1];
+        write!(f, "{name}, ground {}", self.ground)
+    }
 }

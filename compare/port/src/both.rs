@@ -6,7 +6,7 @@ use judge::{Baselines, Case, Mover, Search, Snapshot};
 
 use crate::covers::{self, Change};
 use crate::port;
-use crate::rules;
+use crate::rules::{self, Judged};
 use crate::values::{Building, Inputs, Query, Store, Terrain, Word, Work, rect};
 
 /// What differs, in words.
@@ -174,8 +174,8 @@ pub fn read(inputs: &Inputs, store: &Store, k: u32) -> Result<u32, Difference> {
     Ok(0)
 }
 
-/// Judges a selection: the refusal, or the verdict's number.
-pub fn judge(inputs: &Inputs, selection: &[u16], work: &mut Work, search: Option<&Search>) -> Result<Result<u32, u32>, Difference> {
+/// Judges a selection: the refusal, or what the selection comes to.
+pub fn judge(inputs: &Inputs, selection: &[u16], work: &mut Work, search: Option<&Search>) -> Result<Result<Judged, u32>, Difference> {
     let rule = rules::judge(inputs, work, selection);
     let work_before = work.clone();
     let found = port::judge(inputs, selection, work);
@@ -186,17 +186,18 @@ pub fn judge(inputs: &Inputs, selection: &[u16], work: &mut Work, search: Option
         return Ok(Err(number));
     }
     let expected = match search {
-        Some(search) => rules::verdict(inputs, search.original(), selection),
+        Some(search) => rules::judged(inputs, search.original(), selection),
         None => {
             let Baselines { block, allow } = inputs.baselines();
             let case = inputs.case();
             let held = Snapshot::begun(case.placements.len() as u32);
-            rules::verdict(inputs, &probe::build(&case, &block, allow.as_deref(), &held), selection)
+            rules::judged(inputs, &probe::build(&case, &block, allow.as_deref(), &held), selection)
         }
     };
-    same(&format!("judge's verdict and ground of {selection:?}"), &expected, &(found.verdict, found.ground))?;
+    let told = (expected.verdict, expected.ground.left);
+    same(&format!("judge's verdict and ground of {selection:?}"), &told, &(found.verdict, found.ground))?;
     same_work("judge", &work_before.cleared(&inputs.query), work)?;
-    Ok(Ok(expected.0))
+    Ok(Ok(expected))
 }
 
 /// How many bytes stand before and behind the baseline that cover and lift are lent.

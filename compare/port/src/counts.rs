@@ -3,9 +3,10 @@
 use std::collections::BTreeMap;
 use std::fmt;
 
+use judge::verdict::NAMES as VERDICTS;
 use judge::{Search, Snapshot, count};
 
-use crate::rules::VERDICTS;
+use crate::rules::{Ground, Judged};
 
 pub const CALLS: [&str; 7] = ["prepare", "begin", "step", "read", "judge", "cover", "lift"];
 pub const PREPARE: usize = 0;
@@ -36,6 +37,20 @@ const NUMBERS: [&[usize]; 7] = [
     &[2, 4, 6, 15, 20],
 ];
 
+/// A kind of ground left, the verdicts that can have it, by their places in `VERDICTS`, and what makes it.
+type Kind = (&'static str, &'static [usize], fn(&Ground) -> bool);
+
+/// Where a wrong count shows: one from a closed start, none where the end is closed, one of all open centres, one from the end, and one
+/// that stops at the end.
+const GROUNDS: [Kind; 6] = [
+    ("none, the baseline closes the start", &[0, 1, 2], |ground| ground.left == 0 && ground.start_shut),
+    ("none, a member closes the start", &[0, 1, 2], |ground| ground.left == 0 && !ground.start_shut),
+    ("some, and the end is closed", &[0, 1, 2], |ground| ground.left > 0 && ground.from_end == 0),
+    ("less than all open centres", &[0, 1, 2, 3, 4, 5, 6], |ground| ground.left < ground.open),
+    ("less than from the end", &[0, 1, 2, 4, 5, 6], |ground| ground.left < ground.from_end),
+    ("some reached past the end alone", &[0, 1, 3], |ground| ground.left > ground.without_end + 1),
+];
+
 #[derive(Debug, Default, Clone)]
 pub struct Counts {
     /// Searches that a begin started, or that a record was set for.
@@ -55,6 +70,8 @@ pub struct Counts {
     /// Searches by the reason after the last portion.
     pub reasons: [u64; 4],
     pub verdicts: [u64; 7],
+    /// Accepted judgings by the kind of ground left and the verdict.
+    pub grounds: [[u64; 7]; GROUNDS.len()],
     pub answers: Answers,
     /// Calls whose inputs have two faults or more.
     pub double_faults: u64,
@@ -66,6 +83,19 @@ pub struct Counts {
 impl Counts {
     pub fn answer(&mut self, call: usize, number: u32) {
         self.answers[call][number as usize] += 1;
+    }
+
+    /// A judging was answered.
+    pub fn judged(&mut self, judged: Result<Judged, u32>) {
+        self.answer(JUDGE, judged.err().unwrap_or(0));
+        let Ok(Judged { verdict, ground }) = judged else {
+            return;
+        };
+        let verdict = verdict as usize - 1;
+        self.verdicts[verdict] += 1;
+        for (found, (_, _, is)) in self.grounds.iter_mut().zip(GROUNDS) {
+            found[verdict] += u64::from(is(&ground));
+        }
     }
 
     /// A world with one fault was called; `before` is what was answered before it.
@@ -104,6 +134,9 @@ impl Counts {
         for (verdicts, more) in self.verdicts.iter_mut().zip(other.verdicts) {
             *verdicts += more;
         }
+        for (grounds, more) in self.grounds.iter_mut().flatten().zip(other.grounds.iter().flatten()) {
+            *grounds += more;
+        }
         self.dirty_calls += other.dirty_calls;
     }
 
@@ -128,6 +161,11 @@ impl Counts {
         }
         for (name, found) in VERDICTS.iter().zip(self.verdicts) {
             hold(format!("verdicts {name}"), found, thousand);
+        }
+        for ((kind, verdicts, _), found) in GROUNDS.iter().zip(self.grounds) {
+            for &verdict in *verdicts {
+                hold(format!("{} with ground: {kind}", VERDICTS[verdict]), found[verdict], 200);
+            }
         }
         for (call, numbers) in NUMBERS.iter().enumerate() {
             hold(format!("{} accepted", CALLS[call]), self.answers[call][0], thousand);
@@ -162,6 +200,10 @@ impl fmt::Display for Counts {
             write!(f, " {name} {found}")?;
         }
         writeln!(f)?;
+        writeln!(f, "judgings by the ground left, and how many of them have each verdict, in the same order:")?;
+        for ((kind, _, _), found) in GROUNDS.iter().zip(self.grounds) {
+            writeln!(f, "  {kind}: {}, {found:?}", found.iter().sum::<u64>())?;
+        }
         writeln!(f, "calls on dirty areas {}, worlds with two faults {}", self.dirty_calls, self.double_faults)?;
         for (call, answers) in CALLS.iter().zip(&self.answers) {
             write!(f, "{call}: accepted {}", answers[0])?;

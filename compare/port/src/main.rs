@@ -24,7 +24,7 @@ use std::process::ExitCode;
 use std::time::Instant;
 
 use judge::generate::{Generator, Rng};
-use judge::{directed, list};
+use judge::{directed, list, verdict};
 
 use counts::Counts;
 use values::{Inputs, Work};
@@ -115,10 +115,10 @@ fn judged() -> Result<(), String> {
     let case = directed::p();
     let inputs = Inputs::of(&case, &vec![false; case.centres()], None);
     let mut work = Work::clean(&inputs.query);
-    for (selection, verdict, ground) in [(&[][..], "Open", 15), (&[0], "Wall", 12), (&[0, 1], "Overlap", 12)] {
+    for (selection, name, ground) in [(&[][..], "Open", 15), (&[0], "Wall", 6), (&[0, 1], "Overlap", 6)] {
         both::judge(&inputs, selection, &mut work, None)?.map_err(|number| format!("{selection:?} of P is refused with {number}"))?;
         let found = port::judge(&inputs, selection, &mut work);
-        if (rules::VERDICTS[found.verdict as usize - 1], found.ground) != (verdict, ground) {
+        if (verdict::NAMES[found.verdict as usize - 1], found.ground) != (name, ground) {
             return Err(format!("DIFFERENCE {selection:?} of P is {found:?}"));
         }
     }

@@ -6,7 +6,7 @@ use judge::{Baselines, Search};
 
 use crate::both;
 use crate::buildings::near;
-use crate::counts::{BEGIN, COUNTS_ABOVE_ONE, COVER, Counts, JUDGE, LIFT, PREPARE, READ, STEP};
+use crate::counts::{BEGIN, COUNTS_ABOVE_ONE, COVER, Counts, LIFT, PREPARE, READ, STEP};
 use crate::covers::Change;
 use crate::searches::drawn;
 use crate::values::{
@@ -188,11 +188,7 @@ impl World {
         let number = both::read(&self.inputs, &self.store, self.k)?;
         counts.answer(READ, number);
         let mut lent = self.clone();
-        let judged = both::judge(&self.inputs, &self.selection, &mut lent.work, None)?;
-        counts.answer(JUDGE, judged.err().unwrap_or(0));
-        if let Ok(verdict) = judged {
-            counts.verdicts[verdict as usize - 1] += 1;
-        }
+        counts.judged(both::judge(&self.inputs, &self.selection, &mut lent.work, None)?);
         let building = Building { window: self.inputs.query.window, mover: self.mover, rect: self.building };
         for (call, change) in [(COVER, Change::Cover), (LIFT, Change::Lift)] {
             let number = both::alter(change, &building, &mut self.baseline.clone())?;

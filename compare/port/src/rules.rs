@@ -1,6 +1,8 @@
 //! The refusals and verdicts of docs/RULES.md, 7 and 8, read from the rules alone: this module shares no code with the judge's `domain`.
-//! Routes and what a set blocks (7 to 9, and the verdicts' parts) are the original's. Cover and lift are read in `covers`.
+//! Routes and what a set blocks (7 to 9, and the verdicts' parts) are the original's; the ground left is flooded by the judge's `ground`.
+//! Cover and lift are read in `covers`.
 
+use judge::ground::reached;
 use judge::walls::search::{WallSearch, probe};
 use judge::{Mover, Rect};
 
@@ -262,36 +264,76 @@ fn joins(inputs: &Inputs, set: &[usize], entry: usize) -> bool {
         && !set.iter().any(|&member| overlap(footprint(inputs, member), footprint(inputs, entry)))
 }
 
-/// The verdicts' numbers.
-pub const VERDICTS: [&str; 7] = ["Slots", "Overlap", "EndCovered", "Open", "Spare", "Shut", "Wall"];
+/// The blocked mover's ground, and counts that it must not be taken for.
+#[derive(Debug, Clone, Copy)]
+pub struct Ground {
+    pub left: u32,
+    /// All open centres.
+    pub open: u32,
+    /// The ground left, were start and end exchanged.
+    pub from_end: u32,
+    /// The ground left, were the end closed.
+    pub without_end: u32,
+    /// Whether the baseline alone closes the start.
+    pub start_shut: bool,
+}
 
-/// The verdict on an accepted selection, and the ground left. Covers, routes and minimality are the original's.
-pub fn verdict(inputs: &Inputs, original: &WallSearch, selection: &[u16]) -> (u32, u32) {
+#[derive(Debug, Clone, Copy)]
+pub struct Judged {
+    pub verdict: u32,
+    pub ground: Ground,
+}
+
+/// What an accepted selection comes to. Covers, routes and minimality are the original's; the ground is flooded.
+pub fn judged(inputs: &Inputs, original: &WallSearch, selection: &[u16]) -> Judged {
     let set: Vec<u32> = selection.iter().map(|&member| u32::from(member)).collect();
-    let members: Vec<usize> = selection.iter().map(|&member| usize::from(member)).collect();
     let cover = probe::cover(original, Mover::Block, &set).expect("the blocked mover");
-    let ground = cover.iter().filter(|&&off| !off).count() as u32;
-    let (width, _) = inputs.query.size();
-    let off = |[x, y]: [u32; 2]| {
-        let [left, top, ..] = inputs.query.window;
-        cover[(y - top as u32) as usize * width + (x - left as u32) as usize]
-    };
+    Judged { verdict: verdict(inputs, original, &set, &cover), ground: ground(inputs, &cover) }
+}
+
+/// The number of the centre at a pixel of the window.
+fn centre(query: &Query, [x, y]: [u32; 2]) -> usize {
+    let [left, top, ..] = query.window.map(|edge| edge as u32);
+    (y - top) as usize * query.size().0 + (x - left) as usize
+}
+
+fn ground(inputs: &Inputs, cover: &[bool]) -> Ground {
+    let query = &inputs.query;
+    let from = |cover: &[bool], [x, y]: [u32; 2]| reached(cover, rect(&query.window), (x, y));
+    let mut end_closed = cover.to_vec();
+    end_closed[centre(query, query.end)] = true;
+    Ground {
+        left: from(cover, query.start),
+        open: cover.iter().filter(|&&off| !off).count() as u32,
+        from_end: from(cover, query.end),
+        without_end: from(&end_closed, query.start),
+        start_shut: inputs.block_base[centre(query, query.start)] != 0,
+    }
+}
+
+/// The first verdict that applies.
+fn verdict(inputs: &Inputs, original: &WallSearch, set: &[u32], cover: &[bool]) -> u32 {
+    let query = &inputs.query;
+    let members: Vec<usize> = set.iter().map(|&member| member as usize).collect();
     let overfull = |k: usize| members.iter().filter(|&&m| group(inputs, m) == k).count() > inputs.groups[k] as usize;
+    if (0..inputs.groups.len()).any(overfull) {
+        return 1;
+    }
     let meet = |(at, &m): (usize, &usize)| members[..at].iter().any(|&o| overlap(footprint(inputs, o), footprint(inputs, m)));
-    let number = if (0..inputs.groups.len()).any(overfull) {
-        1
-    } else if members.iter().enumerate().any(meet) {
-        2
-    } else if off(inputs.query.start) || off(inputs.query.end) {
-        3
-    } else if probe::route_past(original, Mover::Block, &set).is_some() {
-        4
-    } else if !probe::is_minimal(original, &set) {
-        5
-    } else if inputs.query.allow_given != 0 && probe::route_past(original, Mover::Allow, &set).is_none() {
-        6
-    } else {
-        7
-    };
-    (number, ground)
+    if members.iter().enumerate().any(meet) {
+        return 2;
+    }
+    if cover[centre(query, query.start)] || cover[centre(query, query.end)] {
+        return 3;
+    }
+    if probe::route_past(original, Mover::Block, set).is_some() {
+        return 4;
+    }
+    if !probe::is_minimal(original, set) {
+        return 5;
+    }
+    if query.allow_given != 0 && probe::route_past(original, Mover::Allow, set).is_none() {
+        return 6;
+    }
+    7
 }

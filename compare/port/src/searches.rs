@@ -6,7 +6,7 @@ use judge::list::Item;
 use judge::{Mover, Search, Snapshot};
 
 use crate::both::{self, Difference};
-use crate::counts::{BEGIN, Counts, JUDGE, PREPARE, READ, STEP};
+use crate::counts::{BEGIN, Counts, PREPARE, READ, STEP};
 use crate::values::{Inputs, Query, Store, Terrain, Work, clean, soil};
 
 /// Runs an item; what is drawn comes from `seed`. What the search holds at last, or nothing where prepare refuses.
@@ -153,11 +153,7 @@ pub fn judge(
 ) -> Result<(), Difference> {
     for selection in selections {
         dirty(work, rng, counts);
-        let judged = both::judge(inputs, &selection, work, search)?;
-        counts.answer(JUDGE, judged.err().unwrap_or(0));
-        if let Ok(verdict) = judged {
-            counts.verdicts[verdict as usize - 1] += 1;
-        }
+        counts.judged(both::judge(inputs, &selection, work, search)?);
     }
     Ok(())
 }

@@ -11,3 +11,4 @@ pub mod Turns
 pub mod Blocks
 pub mod Firsts
 pub mod Starts
+pub mod HowMany

@@ -33,6 +33,17 @@ module _ {A : Type 0} (a : A) where
   pub whole-cleared : (l : List A) → replicate (length l) a ++ drop (length l) l ≡ replicate (length l) a
   whole-cleared l = ap (λ (q : List A). replicate (length l) a ++ q) (drop-length l) ∙ append-nil (replicate (length l) a)
 
+  -- ---- a list of a alone
+  pub all-length : (c : ℕ) {l : List A} → l ≡ replicate c a → length l ≡ c
+  all-length c e = ap (λ (q : List A). length q) e ∙ length-replicate {A = A} c a
+
+  pub all-front : (c : ℕ) {l : List A} → l ≡ replicate c a → take c l ≡ replicate c a
+  all-front c e = ap (take c) e ∙ take-replicate c c (omega arith)
+
+  -- a list of c entries is one once it is cleared to its end
+  pub wiped-whole : (c : ℕ) (l : List A) → length l ≡ c → replicate (length l) a ++ drop (length l) l ≡ replicate c a
+  wiped-whole c l e = whole-cleared l ∙ ap (λ (n : ℕ). replicate n a) e
+
   -- l holds a alone in its first c entries
   module _ (c : ℕ) (l : List A) (clear : take c l ≡ replicate c a) where
     -- w was laid to its front, and as many entries are cleared

@@ -1,6 +1,8 @@
 -- Words for lists. A set of placements is a strictly ascending list of indexes (RULES 3.2).
 use Prim.Native.Nat.{ℕ, zero, suc, _+_, _-_}
+use mathlib.Core.Path.{_≡_}
 use mathlib.Core.Bool.{Bool, true, false, not, _&&_, _||_}
+use mathlib.Core.Logic.{_↔_}
 use mathlib.Core.Option.{Option, none, some}
 use mathlib.Core.List.{List, [], _∷_, _++_, List·Memᴰ}
 use lib.Dec.{eqb, ltb}
@@ -39,6 +41,13 @@ module _ {A : Type 0} where
 pub data Distinct {A : Type 0} : List A → Type 0 where
   empty : Distinct []
   fresh : {x : A} {l : List A} → (List·Memᴰ x l → ⊥) → Distinct l → Distinct (x ∷ l)
+
+-- as many have P as n says: a list of n of them holds each once and nothing else
+pub record HowMany {A : Type 0} (P : A → Type 0) (n : ℕ) : Type 0 where
+  pub these : List A
+  pub once : Distinct these
+  pub exactly : (x : A) → List·Memᴰ x these ↔ P x
+  pub many : length these ≡ n
 
 -- the n numbers from k on
 unfoldable pub span : ℕ → ℕ → List ℕ

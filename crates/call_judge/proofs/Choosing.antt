@@ -1,16 +1,13 @@
 -- The checks of judging, one after another, and what holds of a selection that passes them.
-use Prim.Native.Nat.{ℕ, _/_, _<_}
+use Prim.Native.Nat.{ℕ, _/_}
 use mathlib.Core.Path.{_≡_, refl, sym, ap, _∙_, subst}
-use mathlib.Core.Bool.{Bool, true, false, _&&_}
+use mathlib.Core.Bool.{Bool, true, false}
 use mathlib.Core.Option.{Option, none, some}
-use mathlib.Core.List.{List, [], _∷_, _++_, List·Memᴰ}
+use mathlib.Core.List.{List, [], _∷_, _++_}
 use native.Mathlib.Omega.{arith}
-use lib.Dec.{leb, ltb}
 use lib.IntN.{ℤ}
 use lib.ListN.{length}
-use borrow.Author.Tests.{ltb-true, leb-true}
-use Rattle.base_laws.specs.Lists.{allOf, ascends}
-use Rattle.base_laws.proofs.Members.{both, all-member}
+use borrow.Author.Tests.{leb-true}
 use Rattle.base_model.specs.Answers.{Said, refusal, ask, first}
 use Rattle.base_model.proofs.Asking.{ask-passes, first-passes, first-holds, first-fails}
 use Rattle.base_model.specs.declared.Rect.{Rect}
@@ -24,6 +21,7 @@ use Rattle.rule_calls.specs.Areas.{Work, workFits}
 use Rattle.rule_calls.specs.Checks.{groupChecks, placeChecks}
 use Rattle.rule_calls.specs.Calls.{selectionFits, judgeChecks}
 use Rattle.rule_calls.proofs.StepLaws.{first-both}
+use Rattle.rule_calls.proofs.Selected.{selected-is}
 use Rattle.call_checks.specs.Parts.{allowSmall, allowLong, framesOf, frameChecks, areasOf, areaChecks}
 use Rattle.call_checks.proofs.Asked.{first-then, first-stops, query-parts}
 use Rattle.call_checks.proofs.Passed.{Framing, Spacious, frames-found, areas-found}
@@ -97,18 +95,6 @@ module _ (i : Inputs) (s : List ℕ) (w : Work) where
       }
 
 -- ---- the selection
-record Selected (n : ℕ) (s : List ℕ) : Type 0 where
-  rising : ascends s ≡ true
-  named : (i : ℕ) → List·Memᴰ i s → i < n
-
-selected-is : (n : ℕ) (s : List ℕ) → selectionFits n s ≡ true → Selected n s
-unfolding selectionFits
-selected-is n s e =
-    let t = allOf (λ (k : ℕ). ltb k n) s in
-    let a = both (ascends s && t) (leb (length s) 6) e in
-    let b = both (ascends s) t (a .0) in
-    record { rising = b .0; named = λ i m. ltb-true i n (all-member (λ (k : ℕ). ltb k n) s (b .1) i m) }
-
 allow-ready : (w : Rect) (a : Allow) (base : List ℕ) → allowSmall a ≡ true → allowLong (centres w) a (length base) ≡ true → AllowReady w a base
 unfolding allowSmall allowLong AllowReady
 allow-ready w Nobody base e f = tt

@@ -6,6 +6,7 @@ use base_model::Refusal;
 use base_model::SLOTS;
 use call_lengths::WorkLengths;
 use call_rows::members_fit;
+use set_ground::ground_left;
 ghost use mathlib.Core.Path.{_≡_};
 ghost use mathlib.Core.Option.{none};
 ghost use Rattle.base_model.specs.Answers.{first, replyOf};
@@ -114,7 +115,16 @@ fn judged(
         predecessors,
         route,
     );
-    let left = set_verdict::ground_left(query, edges, block_base, selection, map);
+    let left = ground_left(
+        query,
+        edges,
+        block_base,
+        &steps,
+        selection,
+        map,
+        queue,
+        predecessors,
+    );
     Judged::Verdict(v, left)
 }
 
@@ -208,7 +218,7 @@ fn judge_checked(
     )
 }
 
-// Judges a selection: the first verdict that holds, and the number of centres that the selection leaves open to the blocked mover.
+// Judges a selection: the first verdict that holds, and the number of centres to which the blocked mover has a route from the start.
 // Refuses 10, 2, 3, 4, 6, 14, 15 and 17, and then writes nothing. Accepted, it leaves the working areas zero up to their lengths.
 pub fn judge(
     query: Query,

@@ -2,3 +2,4 @@ pub mod Places
 pub mod Carried
 pub mod Kept
 pub mod Extended
+pub mod Judged

@@ -1,2 +1,3 @@
 pub mod Promise
 pub mod Longer
+pub mod Judging

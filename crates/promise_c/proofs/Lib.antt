@@ -2,3 +2,4 @@ pub mod OnNumbers
 pub mod KeptOn
 pub mod ExtendedOn
 pub mod CountsKept
+pub mod JudgedKept

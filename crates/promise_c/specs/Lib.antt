@@ -1,3 +1,4 @@
 pub mod PromiseOn
 pub mod LongerOn
 pub mod CountsOn
+pub mod JudgedOn

@@ -1,2 +1,2 @@
-// Searches computed through the calls by the checker: theorems of RULES 10 and 11 about searches that exist, and searches over counts
-// (RULES 12.7).
+// Calls computed by the checker: theorems of RULES 10, 11 and 13 about searches and judgements that exist, searches over counts
+// (RULES 12.7), and the ground left on small windows (RULES 7.8).

@@ -6,7 +6,7 @@ use Rattle.ground_rects.specs.Rects.{rect, nonempty, has, holds, intersects, ke
 use Rattle.ground_rects.specs.Windows.{width, height, centres, windowFits, inWindow, pixelX, pixelY, centreAt, positionOf}
 use Rattle.ground_baseline.specs.Baseline.{mapFits, cellRect, offTerrain, offObstacle, offEdge, mark, baselineOf}
 use Rattle.rule_routes.specs.Edges.{stepBy, eightSteps, stepsOf, eqZ, sameStep, eachOnce, centre, inside, sidesFrom, edgeBy, edgesFrom, windowEdges}
-use Rattle.rule_routes.specs.Routes.{neighbours, known, onward, discover, anyRoute, sweep, searchFrom, nodesOf, route, sidesOf, leansOn}
+use Rattle.rule_routes.specs.Routes.{neighbours, known, onward, discover, anyRoute, sweep, searchFrom, nodesOf, route, reachCount, sidesOf, leansOn}
 use Rattle.rule_layouts.specs.Boards.{used, mayJoin, leavesOpen, openEnds, routePast}
 use Rattle.rule_layouts.specs.Explore.{mapPoints, touches, extensions, isMinimalBlock, allowedRoute, wallBy, explore}
 use Rattle.rule_layouts.specs.Judge.{overSlots, overlaps, verdict, groundLeft}
@@ -64,7 +64,7 @@ unfolding anyOf allOf select flat firstOf isSome span below total member same as
     width height centres windowFits inWindow pixelX pixelY centreAt positionOf
     mapFits cellRect offTerrain offObstacle offEdge mark baselineOf
     stepBy eightSteps stepsOf eqZ sameStep eachOnce centre inside sidesFrom edgeBy edgesFrom windowEdges
-    neighbours known onward discover anyRoute sweep searchFrom nodesOf route sidesOf leansOn
+    neighbours known onward discover anyRoute sweep searchFrom nodesOf route reachCount sidesOf leansOn
     used mayJoin leavesOpen openEnds routePast
     mapPoints touches extensions isMinimalBlock allowedRoute wallBy explore
     overSlots overlaps verdict groundLeft

@@ -16,3 +16,4 @@ pub mod StepLaws
 pub mod Shapes
 pub mod Reading
 pub mod Named
+pub mod Selected

@@ -13,9 +13,9 @@ use Rattle.base_model.specs.declared.Record.{Record}
 use Rattle.rule_routes.specs.Edges.{Step}
 use Rattle.rule_layouts.specs.Boards.{Mover, Board}
 use Rattle.rule_layouts.specs.Inputs.{Inputs, boardOf}
-use Rattle.rule_calls.specs.Areas.{Work, Store}
+use Rattle.rule_calls.specs.Areas.{Work, Store, workFits}
 use Rattle.rule_calls.specs.Checks.{groupChecks, limitChecks, queryChecks, routeChecks, placementFits, firstMisplaced, placeChecks}
-use Rattle.rule_calls.specs.Calls.{beginChecks, bothRoutes, beginCall, stepChecks, stepCall}
+use Rattle.rule_calls.specs.Calls.{beginChecks, bothRoutes, beginCall, stepChecks, stepCall, judgeChecks}
 
 pub data Named : Option Said → Type 0 where
   Named·passed : Named none
@@ -105,3 +105,14 @@ module _ (steps : List Step) (i : Inputs) (l : Limits) (w : Work) (a : Store) wh
       go : (o : Option Said) → first (stepChecks i l r w a) ≡ o → Named o → Named (stepCall steps i l r n w a .answer)
       go none e h = rw (stepCall, e) Named·passed
       go (some x) e h = rw (stepCall, e) h
+
+-- ---- judging
+pub judge-named : (i : Inputs) (s : List ℕ) (w : Work) → Named (first (judgeChecks i s w))
+unfolding judgeChecks groupChecks queryChecks
+judge-named i s w =
+    let long : Bool = workFits (i .query .window) w in
+    then-named (groupChecks i ++ queryChecks i long ++ placeChecks i) _
+    (then-named (groupChecks i ++ queryChecks i long) (placeChecks i)
+    (asks-named 10 _ _ (omega arith)
+    (asks-named 2 _ _ (omega arith) (asks-named 3 _ _ (omega arith) (asks-named 4 _ _ (omega arith) (asks-named 6 _ [] (omega arith) last-named))))) (place-named i))
+    (asks-named 17 _ [] (omega arith) last-named)

@@ -203,7 +203,7 @@ unfolding computing driving judged judging
 judge-refuses = refl
 
 -- an accepted one leaves the working areas zero: six members of seven, and a wall across a row of three centres
-pub six-judged : judged (alone (replicate 7 good)) (0 ∷ 1 ∷ 2 ∷ 3 ∷ 4 ∷ 5 ∷ []) ≡ record { answer = judges Slots 12; work = zeroed }
+pub six-judged : judged (alone (replicate 7 good)) (0 ∷ 1 ∷ 2 ∷ 3 ∷ 4 ∷ 5 ∷ []) ≡ record { answer = judges Slots 6; work = zeroed }
 unfolding computing driving zeroed judged
 six-judged = refl
 
@@ -212,7 +212,7 @@ corridor = given (box 0 0 3 1) (at 0 0) (at 2 0) still0 Nobody (1 ∷ []) (plain
 
 pub judge-leaves : judged corridor (0 ∷ [])
     ≡ record {
-      answer = judges Wall 2;
+      answer = judges Wall 1;
       work = record {
         counts = replicate 8 (pos 0) ++ pos 9 ∷ [];
         map = 0 ∷ 0 ∷ 0 ∷ 9 ∷ [];

@@ -77,8 +77,8 @@ table =
     ∷ (drive (P Nobody 100 32 [] []) (100 ∷ []) gives result Exhausted 1 0 [])
     ∷ (drive (onOpenCell (box 0 0 5 3) (at 0 1) (at 0 1) still0 Nobody (limits 100 32) (2 ∷ []) placesP) (100 ∷ []) gives result Exhausted 1 3 [])
     ∷ (judging P0 [] gives judged (judges Open 15))
-    ∷ (judging P0 (0 ∷ []) gives judged (judges Wall 12))
-    ∷ (judging P0 (0 ∷ 1 ∷ []) gives judged (judges Overlap 12))
+    ∷ (judging P0 (0 ∷ []) gives judged (judges Wall 6))
+    ∷ (judging P0 (0 ∷ 1 ∷ []) gives judged (judges Overlap 6))
     ∷ (drive Q (4 ∷ []) gives result Running 4 2 (layout (0 ∷ 1 ∷ []) [] ∷ []))
     ∷ (drive Q (4 ∷ 1 ∷ []) gives result Exhausted 4 2 (layout (0 ∷ 1 ∷ []) [] ∷ []))
     -- check 2 alone: 1,024 × 1,024 passes, 1,024 × 1,025 does not

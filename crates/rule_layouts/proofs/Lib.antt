@@ -4,4 +4,5 @@ pub mod Regular
 pub mod Explored
 pub mod SameWalls
 pub mod Judged
+pub mod Ground
 pub mod FlatPlaces

@@ -9,7 +9,7 @@ use lib.Dec.{eqb}
 use Rattle.base_laws.specs.Lists.{anyOf, allOf, select, flat, firstOf, isSome, span, below, member, without}
 use Rattle.base_model.specs.declared.Verdict.the-variants.{Slots, Overlap, EndCovered, Open, Spare, Shut, Wall as AWall}
 use Rattle.rule_routes.specs.Edges.{stepBy, eightSteps, eqZ, centre, inside, sidesFrom, edgeBy, edgesFrom, windowEdges}
-use Rattle.rule_routes.specs.Routes.{neighbours, known, onward, discover, sweep, searchFrom, anyRoute, nodesOf, route, sidesOf, leansOn}
+use Rattle.rule_routes.specs.Routes.{neighbours, known, onward, discover, sweep, searchFrom, anyRoute, nodesOf, route, reachCount, sidesOf, leansOn}
 use Rattle.ground_rects.specs.Rects.{rect}
 use Rattle.rule_layouts.specs.Boards.{Mover, Board, used, mayJoin, leavesOpen, openEnds, routePast}
 use Rattle.rule_layouts.specs.Explore.{Nothing, Extend, Wall, touches, extensions, isMinimalBlock, allowedRoute, wallBy, explore}
@@ -19,7 +19,7 @@ use Rattle.rule_layouts.specs.Inputs.{moverOf}
 -- a name under which an evaluation unfolds
 unfoldable pub exploring : ℕ
 unfolding anyOf allOf select flat firstOf isSome span below member without stepBy eightSteps eqZ centre inside sidesFrom edgeBy edgesFrom windowEdges
-    neighbours known onward discover sweep searchFrom anyRoute nodesOf route sidesOf leansOn used mayJoin leavesOpen openEnds routePast
+    neighbours known onward discover sweep searchFrom anyRoute nodesOf route reachCount sidesOf leansOn used mayJoin leavesOpen openEnds routePast
     touches extensions isMinimalBlock allowedRoute wallBy explore overSlots overlaps verdict groundLeft
 exploring = 0
 
@@ -88,8 +88,21 @@ judgings : verdict (row none) (0 ∷ 1 ∷ 2 ∷ []) ∷ verdict (row none) (0 �
 unfolding exploring board thin touching row free shut itselfAlone
 judgings = refl
 
-ground : groundLeft (row none) [] ∷ groundLeft (row none) (0 ∷ []) ∷ groundLeft (row none) (0 ∷ 1 ∷ []) ∷ [] ≡ 3 ∷ 2 ∷ 1 ∷ []
-unfolding exploring board thin touching row
+-- one row of four centres: placement 0 covers the second, 1 the first, the others the last
+along : ℕ → List ℕ
+along zero = 1 ∷ []
+along (suc zero) = 0 ∷ []
+along (suc (suc i)) = 3 ∷ []
+
+lane : (start end : ℕ) → Board
+lane a b = board 4 1 a b none 3 along itselfAlone
+
+-- the ground left: nothing covered, with the end last and beside the start; cut in two, seen from the first and from the last; the start covered; the end covered, and
+-- with it one open centre cut off from the start; past one side centre of a diagonal step, but not past both
+ground : groundLeft (lane 0 3) [] ∷ groundLeft (lane 0 1) [] ∷ groundLeft (lane 0 3) (0 ∷ []) ∷ groundLeft (lane 3 0) (0 ∷ []) ∷ groundLeft (lane 0 3) (1 ∷ []) ∷ groundLeft (lane 0 3) (2 ∷ [])
+    ∷ groundLeft (lane 0 3) (0 ∷ 2 ∷ []) ∷ groundLeft small (0 ∷ []) ∷ groundLeft small (0 ∷ 1 ∷ []) ∷ []
+    ≡ 4 ∷ 4 ∷ 1 ∷ 2 ∷ 0 ∷ 3 ∷ 1 ∷ 3 ∷ 1 ∷ []
+unfolding exploring board corner small itselfAlone along lane
 ground = refl
 
 -- who may join: no member, a free slot, no member's footprint overlapped

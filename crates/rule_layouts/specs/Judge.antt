@@ -3,10 +3,10 @@ use Prim.Native.Nat.{ℕ}
 use mathlib.Core.Bool.{Bool, not, _&&_}
 use mathlib.Core.List.{List, [], _∷_}
 use lib.Dec.{eqb, ltb}
-use lib.ListN.{length}
-use Rattle.base_laws.specs.Lists.{anyOf, select, below, firstOf, isSome}
+use Rattle.base_laws.specs.Lists.{anyOf, firstOf, isSome}
 use Rattle.base_model.specs.declared.Verdict.{Verdict}
 use Rattle.base_model.specs.declared.Verdict.the-variants.{Slots, Overlap, EndCovered, Open, Spare, Shut, Wall}
+use Rattle.rule_routes.specs.Routes.{reachCount}
 use Rattle.rule_layouts.specs.Boards.{Board, leavesOpen, openEnds, routePast, used}
 use Rattle.rule_layouts.specs.Explore.{isMinimalBlock, allowedRoute}
 
@@ -29,6 +29,6 @@ module _ (g : Board) where
       ∷ (not (isSome (allowedRoute g s)), Shut)
       ∷ []) Wall
 
-  -- the number of centres open to the blocked mover
+  -- the number of centres to which a route from the start exists for the blocked mover
   unfoldable pub groundLeft : List ℕ → ℕ
-  groundLeft s = length (select (leavesOpen (g .block) s) (below (g .nodes)))
+  groundLeft s = reachCount (g .edges) (g .nodes) (leavesOpen (g .block) s) (g .start)

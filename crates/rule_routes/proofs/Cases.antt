@@ -1,13 +1,13 @@
--- Computed cases that a wrong definition fails: edges, routes and what they lean on in small windows, and centre numbers past 65,535.
+-- Computed cases that a wrong definition fails: edges, routes, how many centres have one and what they lean on in small windows, and centre numbers past 65,535.
 use Prim.Native.Nat.{ℕ, _*_}
 use mathlib.Core.Path.{_≡_, refl}
 use mathlib.Core.Bool.{Bool, not}
 use mathlib.Core.Option.{Option, none, some}
 use mathlib.Core.List.{List, [], _∷_}
 use lib.IntN.{pos, negsuc}
-use Rattle.base_laws.specs.Lists.{anyOf, allOf, select, flat, member}
+use Rattle.base_laws.specs.Lists.{anyOf, allOf, select, flat, isSome, span, below, member}
 use Rattle.rule_routes.specs.Edges.{Edge, stepBy, eightSteps, stepsOf, eqZ, centre, inside, sidesFrom, edgeBy, edgesFrom, windowEdges}
-use Rattle.rule_routes.specs.Routes.{neighbours, known, onward, discover, sweep, searchFrom, anyRoute, nodesOf, route, sidesOf, leansOn}
+use Rattle.rule_routes.specs.Routes.{neighbours, known, onward, discover, sweep, searchFrom, anyRoute, nodesOf, route, reachCount, sidesOf, leansOn}
 
 -- all centres but these are open
 openBut : List ℕ → ℕ → Bool
@@ -45,6 +45,18 @@ routes : (routeIn 2 2 [] 0 3 ≡ some (0 ∷ 3 ∷ []))
     × (routeIn 3 3 (5 ∷ []) 3 5 ≡ none)
 unfolding routeIn openBut windowEdges edgesFrom edgeBy sidesFrom inside centre eqZ eightSteps stepBy anyOf allOf select member neighbours known onward discover sweep searchFrom anyRoute nodesOf route
 routes = (refl, refl, refl, refl, refl, refl, refl, refl, refl, refl)
+
+-- How many centres have a route from the start: open ground; a diagonal step past one blocked side and between two; a wall, from either side of it;
+-- a blocked start; one centre.
+reachIn : (width height : ℕ) (shut : List ℕ) (start : ℕ) → ℕ
+reachIn width height shut start = reachCount (windowEdges width height eightSteps) (width * height) (openBut shut) start
+
+reach : reachIn 3 3 [] 4 ∷ reachIn 2 2 (1 ∷ []) 0 ∷ reachIn 2 2 (1 ∷ 2 ∷ []) 0 ∷ reachIn 3 3 (1 ∷ 4 ∷ 7 ∷ []) 3 ∷ reachIn 4 1 (1 ∷ []) 0 ∷ reachIn 4 1 (1 ∷ []) 3
+    ∷ reachIn 3 3 (4 ∷ []) 4 ∷ reachIn 1 1 [] 0 ∷ []
+    ≡ 9 ∷ 3 ∷ 1 ∷ 3 ∷ 1 ∷ 2 ∷ 0 ∷ 1 ∷ []
+unfolding reachIn openBut windowEdges edgesFrom edgeBy sidesFrom inside centre eqZ eightSteps stepBy anyOf allOf select isSome span below member neighbours known onward discover sweep searchFrom
+    anyRoute nodesOf route reachCount
+reach = refl
 
 -- a route leans on its points and on both sides of a diagonal
 leans : leansOn (windowEdges 3 3 eightSteps) (3 ∷ 1 ∷ 2 ∷ []) ≡ 3 ∷ 4 ∷ 0 ∷ 1 ∷ 2 ∷ []

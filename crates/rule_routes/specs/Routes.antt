@@ -5,7 +5,7 @@ use mathlib.Core.Option.{Option, none, some}
 use mathlib.Core.List.{List, [], _∷_, _++_, map, reverse}
 use lib.Dec.{eqb, ltb}
 use lib.ListN.{length, getD}
-use Rattle.base_laws.specs.Lists.{anyOf, allOf, select, flat}
+use Rattle.base_laws.specs.Lists.{anyOf, allOf, select, flat, isSome, below}
 use Rattle.rule_routes.specs.Edges.{Edge}
 
 -- the nodes to which u's edges lead over open nodes, in the order in which they are tried
@@ -67,6 +67,10 @@ nodesOf (some r) = some (reverse (r .at ∷ r .back))
 unfoldable pub route : (ℕ → List Edge) → (n : ℕ) → (ℕ → Bool) → (start end : ℕ) → Option (List ℕ)
 route edges n free start end =
     elim (free start && free end) [ true ↦ nodesOf (searchFrom edges n free (λ (v : ℕ). eqb v end) start .hit) | false ↦ none ]
+
+-- the number of the n nodes to which there is a route from start: 0 where start is blocked, else start counts too
+unfoldable pub reachCount : (ℕ → List Edge) → (n : ℕ) → (ℕ → Bool) → (start : ℕ) → ℕ
+reachCount edges n free start = length (select (λ (v : ℕ). isSome (route edges n free start v)) (below n))
 
 -- the side nodes of the step from u to v
 unfoldable pub sidesOf : (ℕ → List Edge) → (u v : ℕ) → List ℕ

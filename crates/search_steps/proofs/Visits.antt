@@ -12,7 +12,7 @@ use borrow.Author.Tests.{leb-true, leb-false, eqb-true, eqb-false}
 use Rattle.base_laws.specs.Lists.{flat}
 use Rattle.base_laws.specs.Fill.{zeros, over}
 use Rattle.base_laws.proofs.Members.{either, getD-member}
-use Rattle.base_laws.proofs.Stores.{length-zeros, take-replicate, laid-cleared, part-same}
+use Rattle.base_laws.proofs.Stores.{all-front, laid-cleared, part-same}
 use Rattle.base_model.specs.declared.Record.{Record}
 use Rattle.ground_rects.specs.Windows.{centres}
 use Rattle.ground_rects.proofs.Windows.{framed}
@@ -63,8 +63,7 @@ use Rattle.search_steps.proofs.Whole.{
 pub route-wiped : (c k : ℕ) (w route route′ route″ : List ℕ) → route ≡ replicate c 0 → route′ ≡ w ++ drop (length w) route → k ≡ length w
     → k ≤ c → route″ ≡ zeros k ++ drop k route′ → route″ ≡ replicate c 0
 route-wiped c k w route route′ route″ e f q h d =
-    let clear : take c route ≡ replicate c 0 = ap (take c) e ∙ take-replicate 0 c c (omega arith) in
-    d ∙ ap₂ (λ (n : ℕ) (x : List ℕ). zeros n ++ drop n x) q f ∙ laid-cleared 0 c route clear w (omega arith) ∙ e
+    d ∙ ap₂ (λ (n : ℕ) (x : List ℕ). zeros n ++ drop n x) q f ∙ laid-cleared 0 c route (all-front 0 c e) w (omega arith) ∙ e
 
 pub by-ripe : (p : Plan) (P : State → Type 0) → ((ls : List Extensions) (v : List (List ℕ)) (ys : List Layout) → Fresh p ls v → P (held Running true ls v ys)) → (s : State) → Ripe p s → P s
 by-ripe p P f s x = as-pending (λ s. Fresh p (s .lists) (s .visited) → P s) true f s (x .running) (x .pending) (x .fresh)
@@ -333,9 +332,6 @@ place-at at n c e = omega arith
 pub place-is : (t : Terms) (given : Given t) (a₀ : Store) (s : State) (r : Record) (a : Store) (h : Holds t a₀ s r a) (ripe : Ripe (planIn t) s) (at n count : ℕ) → count ≡ r .lists → n ≡ countIn t
     → (count < 6 → at ≡ count * n) → r .lists < 6 → at ≡ r .lists * countIn t
 place-is t given a₀ s r a h ripe at n count ec en f k = f (omega arith) ∙ ap₂ _*_ ec en
-
-pub route-long : (c : ℕ) (route : List ℕ) → route ≡ replicate c 0 → length route ≡ c
-route-long c route e = ap (λ (q : List ℕ). length q) e ∙ length-zeros c
 
 pub route-inside : (c m : ℕ) (route : List ℕ) → m ≡ length (take m route) → length route ≡ c → m ≤ c
 route-inside c m route e l = omega (arith, length-take m route)

@@ -7,8 +7,8 @@ use mathlib.Core.Option.{Option, none, some}
 use mathlib.Core.List.{List, _++_}
 use native.Mathlib.Omega.{arith}
 use lib.Dec.{eqb}
-use lib.ListN.{length, getD, take, drop, replicate, length-append, length-drop, length-replicate}
-use Rattle.base_laws.proofs.Stores.{take-replicate, laid-cleared}
+use lib.ListN.{length, getD, drop, replicate, length-append, length-drop}
+use Rattle.base_laws.proofs.Stores.{all-length, all-front, laid-cleared}
 use Rattle.base_model.specs.declared.Rect.{Rect}
 use Rattle.ground_rects.specs.Windows.{width, height, centres}
 use Rattle.rule_routes.specs.Edges.{Step, windowEdges}
@@ -53,13 +53,13 @@ unfolding laidInto pointCount
 wiped-by none c route route′ e l s = record { room = omega arith; clear = l }
 wiped-by (some p) c route route′ e l s =
     let long = ap (λ (x : List ℕ). length x) l ∙ length-append p (drop (length p) route) in
-    let size = ap (λ (x : List ℕ). length x) e ∙ length-replicate {A = ℕ} c 0 in
+    let size = all-length 0 c e in
     let room : length p ≤ c = omega (arith, length-drop (length p) route) in
     record {
       room = omega arith;
       clear =
           ap (λ (x : List ℕ). replicate (length p) 0 ++ drop (length p) x) l
-          ∙ laid-cleared 0 c route (ap (take c) e ∙ take-replicate 0 c c (omega arith)) p room;
+          ∙ laid-cleared 0 c route (all-front 0 c e) p room;
     }
 
 pub wiped : (o : Option (List ℕ)) (c : ℕ) (route route′ : List ℕ) (r : ℕ) → route ≡ replicate c 0 → RouteFound o route route′ r → length route′ ≡ length route → Wiped route route′ r

@@ -3,10 +3,10 @@ use Prim.Native.Nat.{ℕ, _*_, _<_}
 use mathlib.Core.Path.{_≡_, sym, ap, ap₂, _∙_}
 use mathlib.Core.Bool.{Bool, true, false, not, _&&_}
 use mathlib.Core.Option.{Option}
-use mathlib.Core.List.{List, [], _∷_, _++_}
+use mathlib.Core.List.{List, [], _∷_}
 use lib.IntN.{ℤ}
-use lib.ListN.{length, drop, replicate, length-replicate}
-use Rattle.base_laws.proofs.Stores.{whole-cleared}
+use lib.ListN.{length, replicate}
+use Rattle.base_laws.proofs.Stores.{all-length}
 use Rattle.base_laws.proofs.Firsts.{picked, passed-by, none-holds}
 use Rattle.base_laws.specs.Lists.{anyOf, firstOf, isSome}
 use Rattle.base_model.specs.declared.Rect.{Rect}
@@ -31,7 +31,7 @@ use Rattle.set_pass.proofs.Passing.{open-is}
 use Rattle.set_pass.proofs.Allowing.{past-cases}
 use Rattle.set_shut.specs.Shut.{pastShut}
 use Rattle.set_clash.specs.Clashes.{crowded, clashing}
-use Rattle.set_verdict.specs.Flags.{pastFit}
+use Rattle.set_verdict.specs.Fit.{pastFit}
 
 -- ---- the verdict over placements lent flat
 module _ (q : Query) (start end n : ℕ) (groups numbers : List ℕ) (edges : List ℤ) (blockBase allowBase : List ℕ) (steps : List Step) (s : List ℕ) where
@@ -110,15 +110,11 @@ lent-blank q start end w s e b =
       few = f .few;
       startBelow = s;
       endBelow = e;
-      bytes = ap (λ (x : List ℕ). length x) (b .mapClear) ∙ length-replicate {A = ℕ} (centres (q .window)) 0;
+      bytes = all-length 0 (centres (q .window)) (b .mapClear);
       queueClear = b .queueClear;
       predecessorsClear = b .predecessorsClear;
       routeClear = b .routeClear;
     }
-
--- an area of c entries is zero once it is wiped to its end
-pub wiped-whole : (c : ℕ) (area : List ℕ) → length area ≡ c → replicate (length area) 0 ++ drop (length area) area ≡ replicate c 0
-wiped-whole c area e = whole-cleared 0 area ∙ ap (λ (n : ℕ). replicate n 0) e
 
 pub blank-again : {c : ℕ} {map queue predecessors route map′ queue′ predecessors′ route′ : List ℕ} → Blank c map queue predecessors route → map′ ≡ replicate c 0
     → AreasKept queue predecessors route queue′ predecessors′ route′ → Blank c map′ queue′ predecessors′ route′

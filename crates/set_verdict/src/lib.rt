@@ -1,14 +1,13 @@
-// The verdict on a set of placements, and the ground that it leaves.
+// The verdict on a set of placements.
 use base_model::NUMBERS;
 use base_model::Query;
 use base_model::Verdict;
 ghost use mathlib.Core.Path.{_≡_};
 ghost use mathlib.Core.Bool.{not, _&&_};
-ghost use mathlib.Core.List.{List};
-ghost use Prim.Native.Nat.{ℕ, _*_, _/_, _≤_, _<_};
-ghost use lib.ListN.{length, replicate};
+ghost use Prim.Native.Nat.{_/_, _<_};
+ghost use lib.ListN.{length};
 ghost use Rattle.ground_rects.specs.Windows.{centres};
-ghost use Rattle.rule_routes.specs.Edges.{Step, stepsOf};
+ghost use Rattle.rule_routes.specs.Edges.{stepsOf};
 ghost use Rattle.route_find.specs.Ground.{openIn};
 ghost use Rattle.rule_layouts.specs.Inputs.{boardOf};
 ghost use Rattle.rule_layouts.specs.Flat.{inputsOf};
@@ -16,7 +15,7 @@ ghost use Rattle.rule_layouts.specs.Judge as layouts;
 ghost use Rattle.set_blocked.specs.Blocked.{moverIn, allowIn};
 ghost use Rattle.set_board.specs.Ready.{Ready, Blank};
 ghost use Rattle.set_pass.specs.Pass.{RouteLent, Shutting, AreasKept};
-ghost use Rattle.set_verdict.specs.Flags.{openBytes, pastFit, GroundCounted};
+ghost use Rattle.set_verdict.specs.Fit.{pastFit};
 
 // Whether an end is closed on the map.
 fn end_covered(map: &[u8], start: usize, end: usize) -> bool
@@ -145,47 +144,4 @@ pub fn verdict(
     let c = map.len();
     base_areas::clear_bytes(map, c);
     v
-}
-
-// How many bytes of the map are zero.
-fn open_bytes(map: &[u8]) -> u32
-    requires { ⌜ length (now map) ≤ 1048576 ⌝ }
-    ensures { λ r. ⌜ r ≡ openBytes (now (map .entry)) ⌝ }
-{
-    let mut count = 0;
-    let mut i = 0;
-    while i < map.len() {
-        let at = i;
-        i += 1;
-        if map[at] != 0 {
-            continue;
-        }
-        count += 1;
-    }
-    count
-}
-
-// The number of centres that the set leaves open to the blocked mover. The map is zero before and after.
-pub fn ground_left(
-    query: Query,
-    edges: &[i32],
-    block_base: &[u8],
-    set: &[u16],
-    map: &mut [u8],
-) -> u32
-    requires { ⌜ GroundCounted query (now edges) (now «block_base») (now set) (now map) ⌝ }
-    ensures { λ r. ⌜ ((n : ℕ) (steps : List Step) (groups numbers allow : List ℕ) → length numbers ≡ 4 * n
-        → length (now (edges .entry)) ≡ 8 * n
-        → r ≡ layouts.groundLeft (boardOf steps (inputsOf query groups numbers (now (edges .entry)) (now («block_base» .entry)) allow))
-        (now (set .entry))) ⌝ }
-    ensures { λ r. ⌜ now (map .exit) ≡ replicate (centres (query .window)) 0 ⌝ }
-{
-    let window = query.window;
-    let block = query.block;
-    let n = set.len();
-    set_blocked::blocked_for(block_base, window, edges, block, set, n, map);
-    let left = open_bytes(map);
-    let c = map.len();
-    base_areas::clear_bytes(map, c);
-    left
 }

@@ -19,5 +19,5 @@ pub use walls_step::step;
 // Hands back layout k's allowed route, a part of the points area. The answer and its index are 0, or those of the refusal.
 pub use walls_read::read;
 
-// Judges a selection of placements, and counts the ground left.
+// Judges a selection of placements, and counts the ground left: the centres to which the blocked mover has a route from the start.
 pub use walls_judge::judge;

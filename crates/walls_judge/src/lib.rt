@@ -65,7 +65,7 @@ fn judge_core(
     )
 }
 
-// Judges a selection of placements, and counts the ground left.
+// Judges a selection of placements, and counts the ground left: the centres to which the blocked mover has a route from the start.
 pub fn judge(
     query: Query,
     groups: &[u32],

@@ -193,7 +193,7 @@ preparations = refl
 
 -- a wall with the ground that it leaves; a refusal with its index; one without
 judgements : judgeOn (alone placesP) (0 ∷ []) (workFor W) ∷ judgeOn spoilt (0 ∷ []) (workFor W) ∷ judgeOn (alone placesP) (1 ∷ 0 ∷ []) (workFor W) ∷ []
-    ≡ record { answer = 0; index = 0; verdict = 7; ground = 12; work = zeroed }
+    ≡ record { answer = 0; index = 0; verdict = 7; ground = 6; work = zeroed }
     ∷ record { answer = 15; index = 1; verdict = 0; ground = 0; work = workFor W }
     ∷ record { answer = 17; index = 0; verdict = 0; ground = 0; work = workFor W }
     ∷ []

@@ -2,12 +2,12 @@
 use borrow.Author.Needs.{needs}
 use mathlib.Core.Path.{ap, ap₂, _∙_}
 use mathlib.Core.List.{List}
-use Rattle.rule_routes.specs.Edges.{Step, eightSteps}
+use Rattle.rule_routes.specs.Edges.{Step}
 use Rattle.rule_layouts.specs.Inputs.{boardOf}
 use Rattle.rule_layouts.specs.Flat.{inputsOf}
-use Rattle.rule_layouts.specs.Judge.{verdict}
+use Rattle.rule_layouts.specs.Judge.{verdict, groundLeft}
 use Rattle.rule_calls.specs.Calls.{judges, judgementOf}
-use Rattle.call_judge.proofs.Judgement.{ready, counted}
+use Rattle.call_judge.proofs.Judgement.{ready, counted, ground-flat}
 use Rattle.call_judge.proofs.judged.Statement.{statement}
 use Rattle.call_judge.proofs.judged.Tie as tie
 
@@ -51,23 +51,29 @@ verdict-arg4₅ c = c .before .before .before .before
 abbrev queue₆ : tie.After-route → tie.After-queue
 queue₆ c = c .before .before .before .before
 
-abbrev verdict₆ : tie.After-route → tie.After-verdict
-verdict₆ c = verdict₅ (queue₆ c)
+abbrev route₇ : tie.After-steps2 → tie.After-route
+route₇ c = c .before .before
 
-abbrev start₆ : tie.After-route → tie.Start
-start₆ c = start₄ (verdict-arg4₅ (queue₆ c))
+abbrev verdict₇ : tie.After-steps2 → tie.After-verdict
+verdict₇ c = verdict₅ (queue₆ (route₇ c))
 
-abbrev route₇ : tie.After-map2 → tie.After-route
-route₇ c = c .before .before .before .before
+abbrev start₇ : tie.After-steps2 → tie.Start
+start₇ c = start₄ (verdict-arg4₅ (queue₆ (route₇ c)))
 
-abbrev verdict₇ : tie.After-map2 → tie.After-verdict
-verdict₇ c = verdict₆ (route₇ c)
+abbrev steps2₈ : tie.After-ground-left → tie.After-steps2
+steps2₈ c = c .before .before .before .before
 
-abbrev original-steps₇ : tie.After-map2 → tie.After-original-steps
-original-steps₇ c = original-steps₄ (verdict-arg4₅ (queue₆ (route₇ c)))
+abbrev ground-left₉ : tie.After-queue2 → tie.After-ground-left
+ground-left₉ c = c .before .before .before
 
-abbrev start₇ : tie.After-map2 → tie.Start
-start₇ c = start₆ (route₇ c)
+abbrev verdict₉ : tie.After-queue2 → tie.After-verdict
+verdict₉ c = verdict₇ (steps2₈ (ground-left₉ c))
+
+abbrev original-steps₉ : tie.After-queue2 → tie.After-original-steps
+original-steps₉ c = original-steps₄ (verdict-arg4₅ (queue₆ (route₇ (steps2₈ (ground-left₉ c)))))
+
+abbrev start₉ : tie.After-queue2 → tie.Start
+start₉ c = start₇ (steps2₈ (ground-left₉ c))
 
 verdict-requires : tie.Need-verdict-requires
 verdict-requires c κs =
@@ -75,37 +81,52 @@ verdict-requires c κs =
     let start = start₄ c in
     (ready (start .pre .0) (at-original-steps .original-steps .result) (at-original-steps .original-steps .ensures), start .pre .1)
 
+slice-aggregate-ground-left : tie.Need-slice-aggregate-ground-left
+slice-aggregate-ground-left c = search needs
+
 ground-left-requires : tie.Need-ground-left-requires
 ground-left-requires c κs =
-    let at-route = c .before .before in
-    counted (start₆ at-route .pre .0) (verdict₆ at-route .verdict .ensures .1 .mapClear)
+    let at-steps2 = c .before .before .before in
+    counted (start₇ at-steps2 .pre .0) (verdict₇ at-steps2 .verdict .ensures .1)
 
 same-length : tie.Need-same-length
-same-length c = c .before .before .ground-left .kept .1 .1 .1 .1 .0 ∙ verdict₇ (c .before) .verdict .kept .1 .1 .1 .1 .1 .1 .1 .1 .0
+same-length c =
+    let at-queue2 = c .before .before .before in
+    ground-left₉ at-queue2 .ground-left .kept .1 .1 .1 .1 .1 .0 ∙ verdict₉ at-queue2 .verdict .kept .1 .1 .1 .1 .1 .1 .1 .1 .0
 
 same-length-2 : tie.Need-same-length-2
-same-length-2 c = verdict₇ (c .before) .verdict .kept .1 .1 .1 .1 .1 .1 .1 .1 .1 .0
+same-length-2 c =
+    let at-queue2 = c .before .before .before in
+    ground-left₉ at-queue2 .ground-left .kept .1 .1 .1 .1 .1 .1 .0 ∙ verdict₉ at-queue2 .verdict .kept .1 .1 .1 .1 .1 .1 .1 .1 .1 .0
 
 same-length-3 : tie.Need-same-length-3
-same-length-3 c = verdict₇ (c .before) .verdict .kept .1 .1 .1 .1 .1 .1 .1 .1 .1 .1 .0
+same-length-3 c =
+    let at-queue2 = c .before .before .before in
+    ground-left₉ at-queue2 .ground-left .kept .1 .1 .1 .1 .1 .1 .1 .0 ∙ verdict₉ at-queue2 .verdict .kept .1 .1 .1 .1 .1 .1 .1 .1 .1 .1 .0
 
 same-length-4 : tie.Need-same-length-4
-same-length-4 c = verdict₇ (c .before) .verdict .kept .1 .1 .1 .1 .1 .1 .1 .1 .1 .1 .1 .0
+same-length-4 c = verdict₉ (c .before .before .before) .verdict .kept .1 .1 .1 .1 .1 .1 .1 .1 .1 .1 .1 .0
 
 returns : tie.Need-returns
 unfolding judgementOf
 returns c =
-    let start = start₇ (c .before) in
+    let at-queue2 = c .before .before .before in
+    let at-original-steps = original-steps₉ at-queue2 in
+    let start = start₉ at-queue2 in
     let a = start .args in
     let p = start .pre .0 in
-    let v = verdict₇ (c .before) .verdict in
+    let v = verdict₉ at-queue2 .verdict in
+    let l = ground-left₉ at-queue2 .ground-left .ensures in
     let i = inputsOf (a .query) (a .groups .now) (a .numbers .now) (a .edges .now) (a .block-base .now) (a .allow-base .now) in (
-      ap₂ judges (v .ensures .0 ∙ ap (λ (x : List Step). verdict (boardOf x i) (a .selection .now)) (original-steps₇ (c .before) .original-steps .ensures))
-          (c .before .before .ground-left .ensures .0 _ eightSteps (a .groups .now) (a .numbers .now) (a .allow-base .now) (p .rows .fours) (p .rows .eights)),
+      ap₂ judges (v .ensures .0 ∙ ap (λ (x : List Step). verdict (boardOf x i) (a .selection .now)) (at-original-steps .original-steps .ensures))
+          (l .0
+          ∙ ground-flat (a .query) (a .groups .now) (a .numbers .now) (a .edges .now) (a .block-base .now) (a .allow-base .now) (a .selection .now) _ _
+          (p .rows .fours) (p .rows .eights)
+          ∙ ap (λ (x : List Step). groundLeft (boardOf x i) (a .selection .now)) (at-original-steps .original-steps .ensures)),
       record {
-        mapClear = c .before .before .ground-left .ensures .1;
-        queueClear = v .ensures .1 .queueClear;
-        predecessorsClear = v .ensures .1 .predecessorsClear;
+        mapClear = l .1 .0;
+        queueClear = l .1 .1 .queueSame ∙ v .ensures .1 .queueClear;
+        predecessorsClear = l .1 .1 .predecessorsSame ∙ v .ensures .1 .predecessorsClear;
         routeClear = v .ensures .1 .routeClear;
       },
     )
@@ -113,5 +134,5 @@ returns c =
 pub judged-spec : {M : Type 1} → statement M
 judged-spec =
     tie.close
-    (tie.spec original-steps-requires slice-aggregate-verdict verdict-requires ground-left-requires same-length same-length-2 same-length-3 same-length-4
-    returns)
+    (tie.spec original-steps-requires slice-aggregate-verdict verdict-requires slice-aggregate-ground-left ground-left-requires same-length same-length-2
+    same-length-3 same-length-4 returns)

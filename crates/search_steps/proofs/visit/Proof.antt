@@ -4,6 +4,7 @@ use native.Mathlib.Omega.{arith}
 use Prim.Native.Nat.{_+_, _-_}
 use mathlib.Core.Path.{_∙_}
 use lib.ListN.{take}
+use Rattle.base_laws.proofs.Stores.{all-length}
 use Rattle.ground_rects.specs.Windows.{centres}
 use Rattle.search_steps.proofs.Visits.{
   row-is,
@@ -21,7 +22,6 @@ use Rattle.search_steps.proofs.Visits.{
   place-is,
   push-room,
   listable,
-  route-long,
   route-wiped,
   arm-nothing,
   arm-extend,
@@ -487,7 +487,7 @@ list-wall-requires c κs =
     (at-bounded .bounded .ensures .0) (at-set-on .set-on .result) (at-set-on .set-on .ensures)) (at-enter .enter .result)
     (at-enter .enter .ensures .0) _ (at-enter .enter .ensures .1) (at-told2 .told2 .given .0 .0) (at-told2 .told2 .given .1)
     (at-explore .explore .kept .1 .1 .1 .1 .1 .1 .1 .1 .1 .1 .1 .1 .0
-    ∙ route-long (centres (start .args .query .window)) _ (start .pre .1 .routeClear))
+    ∙ all-length 0 (centres (start .args .query .window)) (start .pre .1 .routeClear))
 
 same-length : tie.Need-same-length
 same-length c = search needs
@@ -731,7 +731,7 @@ returns-3 c =
             (at-explore .explore .last .1 .1 .1 .1 .1 .1 .1 .1 .1 .1 .1 .1 .0) (at-explore .explore .ensures .0))
             (at-told2 .told2 .given .0 .0) (at-told2 .told2 .given .1))
             (at-explore .explore .kept .1 .1 .1 .1 .1 .1 .1 .1 .1 .1 .1 .1 .0
-            ∙ route-long (centres (start .args .query .window)) _ (start .pre .1 .routeClear))) (at-list-wall .list-wall .ensures .wiped);
+            ∙ all-length 0 (centres (start .args .query .window)) (start .pre .1 .routeClear))) (at-list-wall .list-wall .ensures .wiped);
       },
     )
 

@@ -1,10 +1,10 @@
 -- `set_explore::explore` meets its contract: the board of the inputs is that of the rows, and the map is cleared.
-use mathlib.Core.Path.{_≡_, sym, ap, _∙_, subst}
+use mathlib.Core.Path.{_≡_, sym, _∙_, subst}
 use mathlib.Core.List.{List, _++_}
 use Prim.Native.Nat.{ℕ}
 use native.Mathlib.Omega.{arith}
-use lib.ListN.{length, replicate, drop, length-replicate}
-use Rattle.base_laws.proofs.Stores.{whole-cleared}
+use lib.ListN.{length, replicate, drop}
+use Rattle.base_laws.proofs.Stores.{all-length, wiped-whole}
 use Rattle.ground_rects.specs.Windows.{centres}
 use Rattle.ground_rects.proofs.Windows.{framed}
 use Rattle.rule_routes.specs.Edges.{stepsOf}
@@ -17,8 +17,7 @@ use Rattle.set_explore.proofs.explore.Tie as tie
 
 -- a map wiped to its end
 wiped-map : (c : ℕ) (map map₁ : List ℕ) → map ≡ replicate c 0 → length map₁ ≡ length map → replicate (length map₁) 0 ++ drop (length map₁) map₁ ≡ map
-wiped-map c map map₁ e s =
-    whole-cleared 0 map₁ ∙ ap (λ (n : ℕ). replicate n 0) (s ∙ ap (λ (x : List ℕ). length x) e ∙ length-replicate {A = ℕ} c 0) ∙ sym e
+wiped-map c map map₁ e s = wiped-whole 0 c map₁ (s ∙ all-length 0 c e) ∙ sym e
 
 -- the places of the walk, each seen from a later one
 abbrev start₁ : tie.After-shared-slice-known4 → tie.Start
@@ -100,7 +99,7 @@ evaluate-requires c κs =
         few = f .few;
         startBelow = centre-at₅ (c .before) .centre-at .ensures .1;
         endBelow = centre-at2₅ (c .before) .centre-at2 .ensures .1;
-        bytes = ap (λ (x : List ℕ). length x) (b .mapClear) ∙ length-replicate {A = ℕ} (centres w) 0;
+        bytes = all-length 0 (centres w) (b .mapClear);
         queueClear = b .queueClear;
         predecessorsClear = b .predecessorsClear;
         routeClear = b .routeClear;

@@ -4,8 +4,8 @@ use mathlib.Core.Option.{Option}
 use mathlib.Core.List.{List}
 use Prim.Native.Nat.{ℕ, _*_}
 use native.Mathlib.Omega.{arith}
-use lib.ListN.{length, replicate, take, length-replicate}
-use lib.Seq.{take-all}
+use lib.ListN.{length}
+use Rattle.base_laws.proofs.Stores.{all-length, all-front}
 use Rattle.ground_rects.specs.Windows.{width, height, centres}
 use Rattle.rule_routes.specs.Edges.{stepsOf}
 use Rattle.set_blocked.specs.Blocked.{moverIn, withoutAt}
@@ -14,9 +14,6 @@ use Rattle.route_find.specs.Results.{RouteFound}
 use Rattle.set_pass.proofs.Passing.{past-is}
 use Rattle.set_pass.proofs.route_past.Statement.{statement}
 use Rattle.set_pass.proofs.route_past.Tie as tie
-
-clear : {area : List ℕ} (c : ℕ) → area ≡ replicate c 0 → take c area ≡ replicate c 0
-clear c e = ap (take c) e ∙ take-all c (replicate c 0) (omega (arith, length-replicate {A = ℕ} c 0))
 
 -- the places of the walk, each seen from a later one
 abbrev start₁ : tie.After-slice-known2 → tie.Start
@@ -80,11 +77,11 @@ route-requires c κs =
     let w = start .args .window in
     let e : at-width .width .result * at-height .height .result ≡ width w * height w = rw (at-width .width .ensures .0, at-height .height .ensures .0) in
     let size = ap (λ (l : List ℕ). length l) (at-blocked-for .blocked-for .ensures) ∙ length-blocked _ (centres w) _ in
-    let room = ap (λ (l : List ℕ). length l) (l .routeClear) ∙ length-replicate {A = ℕ} (centres w) 0 in
+    let room = all-length 0 (centres w) (l .routeClear) in
     rw e (
       record { bytes = omega arith; small = omega (arith, l .few) },
       record {
-        working = record { queueClear = clear (centres w) (l .queueClear); predecessorsClear = clear (centres w) (l .predecessorsClear); startBelow = l .startBelow };
+        working = record { queueClear = all-front 0 (centres w) (l .queueClear); predecessorsClear = all-front 0 (centres w) (l .predecessorsClear); startBelow = l .startBelow };
         endBelow = l .endBelow;
         routeRoom = omega arith;
       },

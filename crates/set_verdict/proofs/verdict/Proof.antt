@@ -3,10 +3,11 @@ use mathlib.Core.Path.{refl, _∙_}
 use Prim.Native.Nat.{_/_}
 use native.Mathlib.Omega.{arith}
 use lib.ListN.{length}
+use Rattle.base_laws.proofs.Stores.{wiped-whole}
 use Rattle.ground_rects.specs.Windows.{centres, centreAt}
 use Rattle.rule_routes.specs.Edges.{stepsOf}
 use Rattle.set_board.proofs.Ready.{named-rows}
-use Rattle.set_verdict.proofs.Judging.{verdict-slots, verdict-overlap, verdict-fit, verdict-rule, lent-blank, wiped-whole, blank-again}
+use Rattle.set_verdict.proofs.Judging.{verdict-slots, verdict-overlap, verdict-fit, verdict-rule, lent-blank, blank-again}
 use Rattle.set_verdict.proofs.verdict.Statement.{statement}
 use Rattle.set_verdict.proofs.verdict.Tie as tie
 
@@ -192,7 +193,7 @@ returns-3 c =
           (a .set .now) (p .rows .fours) (p .rows .eights)
           (at-centre-at .centre-at .ensures .0) (at-centre-at2 .centre-at2 .ensures .0),
       blank-again (start .pre .1)
-          (c .before .before .clear-bytes .ensures ∙ wiped-whole (centres (a .query .window)) (v .last .1 .1 .1 .1 .1 .1 .1 .1 .0) (v .kept .1 .1 .1 .1 .1 .1 .1 .1 .0 ∙ l .bytes))
+          (c .before .before .clear-bytes .ensures ∙ wiped-whole 0 (centres (a .query .window)) (v .last .1 .1 .1 .1 .1 .1 .1 .1 .0) (v .kept .1 .1 .1 .1 .1 .1 .1 .1 .0 ∙ l .bytes))
           (v .ensures .1),
     )
 
