@@ -17,9 +17,9 @@
  *    This, and that single pointers (`index`, `first`, ..) be valid, is all that is asked of a caller.
  *  - An area may be longer than needed. What lies past the needed length is never written.
  *  - A search lives in its record and its four store areas, which belong to the caller. Between the calls of one search, its
- *    inputs (QUERY, LIMITS, PLACES, BASES), its record and its store must stay as they were. What is promised of a search is
- *    promised under this condition; a record that does not fit its inputs and its store is refused with 16. Cover and lift
- *    alter a baseline: they belong between searches, not between the calls of one.
+ *    inputs (QUERY, LIMITS, PLACES, BASES, STEPS), its record and its store must stay as they were. What is promised of a search
+ *    is promised under this condition; a record that does not fit its inputs and its store is refused with 16, which does not see
+ *    another order of steps. Cover and lift alter a baseline: they belong between searches, not between the calls of one.
  *
  * Parameter blocks, in the order in which the functions take them
  *
@@ -40,6 +40,11 @@
  *  BASES   block_base, allow_base: the baselines of the two movers, as prepare made them or cover and lift left them. A baseline holds
  *          a count for each centre, a byte; the centre is blocked where it is not zero. Any counts are taken, and the answer is the
  *          same as if every count that is not zero were 1. allow_base is not looked at where there is no mover to let pass.
+ *  STEPS   steps: the order in which a route tries the eight steps from each centre. HITROVZEN_STEPS numbers, no fewer and no more:
+ *          eight x, y pairs, in which each of the eight steps stands exactly once. HITROVZEN_ORIGINAL_STEPS is the original's order.
+ *          With another order a search may keep other routes, list its walls in another sequence and evaluate more sets or fewer, so
+ *          that a limit may stop it with other walls. But two searches alike except for steps and limits list the same walls where
+ *          both stop Exhausted; and baselines, verdicts and the ground left are the same with every order.
  *  WORK    counts, map, queue, predecessors, route: working areas, zero after each accepted call.
  *  STORE   lists, visited, layouts, points: what a search holds beside its record. Row k of layouts is HITROVZEN_ROW numbers: how
  *          many members layout k has, then their indexes, ascending, in six places. The first `record[HITROVZEN_LAYOUTS]` rows
@@ -78,7 +83,8 @@ enum hitrovzen_answer {
     HITROVZEN_PLACEMENT_INVALID = 15,    /* A placement has a spec index above 5, no such group, an empty rectangle or a footprint not wholly inside the window; or the rectangle to cover or lift is empty. */
     HITROVZEN_RECORD_INVALID = 16,       /* The record and its areas are not those of a search over these inputs. */
     HITROVZEN_SELECTION_INVALID = 17,    /* No layout has this number, or the selection does not ascend strictly, names no placement or has more than 6. */
-    /* 18 is an answer of the program that reads drive sheets. 19 is reserved. */
+    /* 18 is an answer of the program that reads drive sheets. */
+    HITROVZEN_STEPS_INVALID = 19,        /* The table of steps is not 16 numbers, or does not hold each of the eight steps exactly once. */
     HITROVZEN_COUNT_OUT_OF_RANGE = 20    /* A cover would take a count above 255, or a lift one below zero. */
 };
 
@@ -119,6 +125,7 @@ enum hitrovzen_record {
 #define HITROVZEN_NUMBERS 4 /* numbers a placement: spec index, group, tile x, tile y */
 #define HITROVZEN_EDGES 8   /* edges a placement: footprint, collision rectangle */
 #define HITROVZEN_ROW 7     /* numbers a row of visited or layouts: length, six members */
+#define HITROVZEN_STEPS 16  /* numbers in a table of steps: eight x, y pairs */
 
 #define HITROVZEN_MOST_CENTRES 1048576
 #define HITROVZEN_MOST_POINTS 1000000
@@ -128,6 +135,10 @@ enum hitrovzen_record {
 
 /* No mover to let pass: the last five numbers of QUERY. */
 #define HITROVZEN_NOBODY 0, 0, 0, 0, 0
+
+/* The original's order of steps, the straight ones before the diagonal ones:
+ * static const int32_t steps[HITROVZEN_STEPS] = HITROVZEN_ORIGINAL_STEPS; */
+#define HITROVZEN_ORIGINAL_STEPS {1, 0, 0, 1, -1, 0, 0, -1, 1, 1, -1, 1, -1, -1, 1, -1}
 
 /* The lengths of the areas, in elements. 0 where the window or the limit is one that the calls refuse by its own number. */
 
@@ -160,10 +171,10 @@ static inline size_t hitrovzen_points(uint32_t results, size_t centres) {
  *
  * across, down: the map's size in walk cells of 8 by 8 pixels, 1 to 1,024 each way. cells: one byte a cell, row by row, 1 walkable,
  * 0 not. obstacles: four edges each (left, top, right, bottom), at most 4,096. The window and the ends are those of QUERY; mover is
- * its block or its allow. baseline: as long as the window has centres.
+ * its block or its allow. steps: as STEPS. baseline: as long as the window has centres.
  *
- * Refused, in this order, with 1, 2, 3, 4, 5, 6, 7, 8, 9. 1 to 6 write nothing; 7 to 9 leave baseline and WORK zero up to their needed
- * lengths. */
+ * Refused, in this order, with 19, 1, 2, 3, 4, 5, 6, 7, 8, 9. 19 and 1 to 6 write nothing; 7 to 9 leave baseline and WORK zero up to
+ * their needed lengths. */
 uint32_t hitrovzen_prepare(
     uint32_t across, uint32_t down,
     const uint8_t *cells, size_t cells_len,
@@ -171,6 +182,7 @@ uint32_t hitrovzen_prepare(
     int32_t window_left, int32_t window_top, int32_t window_right, int32_t window_bottom,
     uint32_t start_x, uint32_t start_y, uint32_t end_x, uint32_t end_y,
     uint32_t mover_left, uint32_t mover_top, uint32_t mover_right, uint32_t mover_bottom,
+    const int32_t *steps, size_t steps_len,
     uint8_t *baseline, size_t baseline_len,
     int32_t *counts, size_t counts_len,
     uint8_t *map, size_t map_len,
@@ -212,7 +224,7 @@ uint32_t hitrovzen_lift(
  * record: at least HITROVZEN_RECORD numbers. index: the index of the first placement that is not taken where the answer is 15,
  * otherwise 0; so it is in every function below.
  *
- * Refused, in this order, with 10, 11, 12, 2 (here a map of 8,192 by 8,192 pixels stands for the map), 3, 4, 6; 7, 8, 9 for the
+ * Refused, in this order, with 19, 10, 11, 12, 2 (here a map of 8,192 by 8,192 pixels stands for the map), 3, 4, 6; 7, 8, 9 for the
  * blocked mover, then for the allowed one; 14, 15. A refusal leaves record and STORE as they were; 7, 8, 9, 14 and 15 leave WORK zero,
  * the others leave it as it was. */
 uint32_t hitrovzen_begin(
@@ -226,6 +238,7 @@ uint32_t hitrovzen_begin(
     const int32_t *edges, size_t edges_len,
     const uint8_t *block_base, size_t block_base_len,
     const uint8_t *allow_base, size_t allow_base_len,
+    const int32_t *steps, size_t steps_len,
     uint32_t *record, size_t record_len,
     int32_t *counts, size_t counts_len,
     uint8_t *map, size_t map_len,
@@ -241,7 +254,7 @@ uint32_t hitrovzen_begin(
 /* Evaluates n sets more, or stops: Exhausted, StateLimit or ResultLimit. A search that has stopped stays as it is. A step by a and
  * then one by b leave what a step by a + b leaves.
  *
- * Refused, in this order, with 10, 11, 12, 2, 3, 4, 6, 14, 15, 16. A refusal writes nothing but index. */
+ * Refused, in this order, with 19, 10, 11, 12, 2, 3, 4, 6, 14, 15, 16. A refusal writes nothing but index. */
 uint32_t hitrovzen_step(
     int32_t window_left, int32_t window_top, int32_t window_right, int32_t window_bottom,
     uint32_t start_x, uint32_t start_y, uint32_t end_x, uint32_t end_y,
@@ -253,6 +266,7 @@ uint32_t hitrovzen_step(
     const int32_t *edges, size_t edges_len,
     const uint8_t *block_base, size_t block_base_len,
     const uint8_t *allow_base, size_t allow_base_len,
+    const int32_t *steps, size_t steps_len,
     uint32_t *record, size_t record_len,
     uint32_t n,
     int32_t *counts, size_t counts_len,
@@ -267,7 +281,7 @@ uint32_t hitrovzen_step(
     uint32_t *index);
 
 /* Tells where the allowed mover's route past layout k stands: point i of it, for i from first to first + count - 1, is
- * points[2 * i], points[2 * i + 1]. count is 0 where there is no mover to let pass.
+ * points[2 * i], points[2 * i + 1]. count is 0 where there is no mover to let pass. Reading takes no table of steps.
  *
  * Refused, in this order, with 10, 11, 12, 2, 3, 4, 6, 14, 15, 16, and 17 where no layout has the number k; first and count are
  * then 0. */
@@ -295,7 +309,7 @@ uint32_t hitrovzen_read(
  * where the start is closed to the blocked mover, by its baseline or by a member.
  * selection: at most 6 indexes of placements, strictly ascending.
  *
- * Refused, in this order, with 10, 2, 3, 4, 6, 14, 15, and 17 for what is no selection; verdict and ground are then 0. A refusal
+ * Refused, in this order, with 19, 10, 2, 3, 4, 6, 14, 15, and 17 for what is no selection; verdict and ground are then 0. A refusal
  * leaves WORK as it was. */
 uint32_t hitrovzen_judge(
     int32_t window_left, int32_t window_top, int32_t window_right, int32_t window_bottom,
@@ -307,6 +321,7 @@ uint32_t hitrovzen_judge(
     const int32_t *edges, size_t edges_len,
     const uint8_t *block_base, size_t block_base_len,
     const uint8_t *allow_base, size_t allow_base_len,
+    const int32_t *steps, size_t steps_len,
     const uint16_t *selection, size_t selection_len,
     int32_t *counts, size_t counts_len,
     uint8_t *map, size_t map_len,

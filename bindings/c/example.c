@@ -1,6 +1,6 @@
 /* A gap of six pixels in which posts may stand. The planner looks for the sets of posts that keep a mover of three pixels out and
  * let one of a single pixel pass, and prints each with the way past it. Then a rock is put down in the gap, dragged to its other end
- * and taken away, and the walls are listed each time.
+ * and taken away, and the walls are listed each time; at last with ways that prefer diagonal steps.
  *
  *     cc -std=c11 -I bindings bindings/c/example.c target/staticlib/libwalls_c.a -o example && ./example
  */
@@ -21,6 +21,7 @@
 #define LIMITS STATES, RESULTS
 #define PLACES HITROVZEN_ARRAY(groups), HITROVZEN_ARRAY(numbers), HITROVZEN_ARRAY(edges)
 #define BASES block_base, centres, allow_base, centres
+#define STEPS steps, HITROVZEN_STEPS
 #define WORK counts, counts_len, map, centres, queue, centres, predecessors, centres, route, centres
 #define STORE lists, lists_len, visited, visited_len, layouts, layouts_len, points, points_len
 
@@ -37,6 +38,14 @@ static const int32_t edges[] = {
     3, 0, 4, 2, 3, 0, 4, 2,
     3, 3, 4, 6, 3, 3, 4, 6,
 };
+
+/* The order in which a way tries the eight steps: the original's, and one in which the diagonal steps come first. */
+static const int32_t original[HITROVZEN_STEPS] = HITROVZEN_ORIGINAL_STEPS;
+static const int32_t diagonals[HITROVZEN_STEPS] = {
+    1, 1, -1, 1, -1, -1, 1, -1,
+    1, 0, 0, 1, -1, 0, 0, -1,
+};
+static const int32_t *steps = original;
 
 /* A rock at the upper end of the gap, and at the lower end. */
 #define UPPER 3, 0, 4, 1
@@ -92,8 +101,10 @@ static void give_back(void) {
 }
 
 static void prepare(void) {
-    accepted("prepare block", hitrovzen_prepare(1, 1, HITROVZEN_ARRAY(cells), obstacles, 0, WINDOW, ENDS, BLOCK, block_base, centres, WORK));
-    accepted("prepare allow", hitrovzen_prepare(1, 1, HITROVZEN_ARRAY(cells), obstacles, 0, WINDOW, ENDS, ALLOW, allow_base, centres, WORK));
+    accepted("prepare block",
+             hitrovzen_prepare(1, 1, HITROVZEN_ARRAY(cells), obstacles, 0, WINDOW, ENDS, BLOCK, STEPS, block_base, centres, WORK));
+    accepted("prepare allow",
+             hitrovzen_prepare(1, 1, HITROVZEN_ARRAY(cells), obstacles, 0, WINDOW, ENDS, ALLOW, STEPS, allow_base, centres, WORK));
 }
 
 static void print_wall(uint32_t k) {
@@ -109,9 +120,9 @@ static void print_wall(uint32_t k) {
 }
 
 static void print_walls(void) {
-    accepted("begin", hitrovzen_begin(QUERY, LIMITS, PLACES, BASES, HITROVZEN_ARRAY(record), WORK, STORE, &index_));
+    accepted("begin", hitrovzen_begin(QUERY, LIMITS, PLACES, BASES, STEPS, HITROVZEN_ARRAY(record), WORK, STORE, &index_));
     while (record[HITROVZEN_REASON] == HITROVZEN_RUNNING)
-        accepted("step", hitrovzen_step(QUERY, LIMITS, PLACES, BASES, HITROVZEN_ARRAY(record), 2, WORK, STORE, &index_));
+        accepted("step", hitrovzen_step(QUERY, LIMITS, PLACES, BASES, STEPS, HITROVZEN_ARRAY(record), 2, WORK, STORE, &index_));
 
     printf("reason %" PRIu32 ", %" PRIu32 " sets evaluated\n", record[HITROVZEN_REASON], record[HITROVZEN_EVALUATIONS]);
     for (uint32_t k = 0; k < record[HITROVZEN_LAYOUTS]; k++) print_wall(k);
@@ -120,7 +131,7 @@ static void print_walls(void) {
 static void judge(void) {
     uint16_t selection[] = {0};
     uint32_t verdict, ground;
-    accepted("judge", hitrovzen_judge(QUERY, PLACES, BASES, HITROVZEN_ARRAY(selection), WORK, &index_, &verdict, &ground));
+    accepted("judge", hitrovzen_judge(QUERY, PLACES, BASES, STEPS, HITROVZEN_ARRAY(selection), WORK, &index_, &verdict, &ground));
     printf("post 0 alone: %s, ground left %" PRIu32 "\n", verdict == HITROVZEN_WALL ? "a wall" : "no wall", ground);
 }
 
@@ -150,12 +161,20 @@ static void drag(void) {
     print_walls();
 }
 
+/* Other ways past the same walls. The baselines are good for every order. */
+static void prefer_diagonals(void) {
+    steps = diagonals;
+    printf("diagonal steps first: ");
+    print_walls();
+}
+
 int main(void) {
     lend();
     prepare();
     print_walls();
     judge();
     drag();
+    prefer_diagonals();
     give_back();
     return 0;
 }

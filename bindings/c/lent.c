@@ -1,5 +1,6 @@
 /* What walls.h says of lent areas, tried: how long each must be, that nothing past that is written, and what refusals leave; and what
- * it says of the ground left. The case is that of example.c. Prints how many statements held, and each that did not. */
+ * it says of the ground left and of tables of steps. The case is that of example.c. Prints how many statements held, and each that
+ * did not. */
 #include <inttypes.h>
 #include <stdio.h>
 #include <string.h>
@@ -64,24 +65,30 @@ static size_t told[AREAS];
 static uint32_t states = STATES, index_, first, count, verdict, ground;
 static uint16_t selection[] = {0};
 
+/* The table that the next calls are lent, with a pair to spare, and how many of its numbers they are told. */
+static const int32_t original[HITROVZEN_STEPS + 2] = HITROVZEN_ORIGINAL_STEPS;
+static int32_t steps[HITROVZEN_STEPS + 2] = HITROVZEN_ORIGINAL_STEPS;
+static size_t steps_told = HITROVZEN_STEPS;
+
+#define STEPS steps, steps_told
 #define BASES block_base, told[BLOCK_BASE], allow_base, told[ALLOW_BASE]
 #define WORK counts, told[COUNTS], map, told[MAP], queue, told[QUEUE], predecessors, told[PREDECESSORS], route, told[ROUTE]
 #define STORE lists, told[LISTS], visited, told[VISITED], layouts, told[LAYOUTS], points, told[POINTS]
 
 static uint32_t prepare(void) {
-    return hitrovzen_prepare(1, 1, HITROVZEN_ARRAY(cells), obstacles, 0, WINDOW, ENDS, BLOCK, block_base, told[BLOCK_BASE], WORK);
+    return hitrovzen_prepare(1, 1, HITROVZEN_ARRAY(cells), obstacles, 0, WINDOW, ENDS, BLOCK, STEPS, block_base, told[BLOCK_BASE], WORK);
 }
 
 static uint32_t prepare_allow(void) {
-    return hitrovzen_prepare(1, 1, HITROVZEN_ARRAY(cells), obstacles, 0, WINDOW, ENDS, ALLOW, allow_base, told[ALLOW_BASE], WORK);
+    return hitrovzen_prepare(1, 1, HITROVZEN_ARRAY(cells), obstacles, 0, WINDOW, ENDS, ALLOW, STEPS, allow_base, told[ALLOW_BASE], WORK);
 }
 
 static uint32_t begin(void) {
-    return hitrovzen_begin(QUERY, states, RESULTS, PLACES, BASES, record, told[RECORD], WORK, STORE, &index_);
+    return hitrovzen_begin(QUERY, states, RESULTS, PLACES, BASES, STEPS, record, told[RECORD], WORK, STORE, &index_);
 }
 
 static uint32_t step(uint32_t n) {
-    return hitrovzen_step(QUERY, states, RESULTS, PLACES, BASES, record, told[RECORD], n, WORK, STORE, &index_);
+    return hitrovzen_step(QUERY, states, RESULTS, PLACES, BASES, STEPS, record, told[RECORD], n, WORK, STORE, &index_);
 }
 
 static uint32_t read(uint32_t k) {
@@ -91,7 +98,8 @@ static uint32_t read(uint32_t k) {
 
 static uint32_t judge_from(uint32_t x, uint32_t y) {
     verdict = ground = 99;
-    return hitrovzen_judge(WINDOW, x, y, END, BLOCK, 1, ALLOW, PLACES, BASES, HITROVZEN_ARRAY(selection), WORK, &index_, &verdict, &ground);
+    return hitrovzen_judge(
+        WINDOW, x, y, END, BLOCK, 1, ALLOW, PLACES, BASES, STEPS, HITROVZEN_ARRAY(selection), WORK, &index_, &verdict, &ground);
 }
 
 static uint32_t judge(void) { return judge_from(1, 2); }
@@ -141,6 +149,11 @@ static int as_kept(int a) { return memcmp(kept[a], areas[a].start, areas[a].leng
 
 static void all_as_kept(const char *statement) {
     for (int a = 0; a < AREAS; a++) holds(as_kept(a), statement, areas[a].name);
+}
+
+static void all_but_work_as_kept(const char *statement) {
+    for (int a = 0; a < AREAS; a++)
+        if (!areas[a].working) holds(as_kept(a), statement, areas[a].name);
 }
 
 /* Whether the bytes of an area, the spare ones or those before, are all equal to one. */
@@ -255,10 +268,105 @@ static void refusals(void) {
     all_as_kept("15 writes nothing in step, read and judge");
     holds(begin() == HITROVZEN_PLACEMENT_INVALID && index_ == 2, "a refused placement is named", "begin");
     work_is_zero("15 leaves working areas zero in begin");
-    for (int a = 0; a < AREAS; a++)
-        if (!areas[a].working) holds(as_kept(a), "15 leaves record and store as they were in begin", areas[a].name);
+    all_but_work_as_kept("15 leaves record and store as they were in begin");
     numbers[2 * HITROVZEN_NUMBERS] = 0;
     holds(step(1) == 0 && index_ == 0, "the search goes on after refusals", "step");
+}
+
+/* A table of so many numbers, which does not fit, is handed to the four calls that take one. */
+static void refused_table(size_t length, const char *name) {
+    steps_told = length;
+    for (int which = PREPARE; which <= JUDGE; which *= 2) {
+        if (which == READ) continue;
+        soil(1);
+        keep();
+        index_ = 99;
+        holds(call(which) == HITROVZEN_STEPS_INVALID, "a table that does not fit is refused", name);
+        holds(which == PREPARE || index_ == 0, "19 names no placement", name);
+        holds(which != JUDGE || (verdict == 0 && ground == 0), "nor a verdict", name);
+        all_as_kept("19 writes nothing");
+    }
+    holds(read(0) == 0, "reading takes no table", name);
+    steps_told = HITROVZEN_STEPS;
+}
+
+static void refused_pair(int at, int32_t x, int32_t y, const char *name) {
+    steps[2 * at] = x;
+    steps[2 * at + 1] = y;
+    refused_table(HITROVZEN_STEPS, name);
+    memcpy(steps, original, sizeof steps);
+}
+
+static void tables(void) {
+    refused_table(0, "no numbers");
+    refused_table(HITROVZEN_STEPS - 2, "seven pairs");
+    refused_table(HITROVZEN_STEPS - 1, "a number too few");
+    refused_table(HITROVZEN_STEPS + 1, "a number too many");
+    steps[HITROVZEN_STEPS] = 1;
+    refused_table(HITROVZEN_STEPS + 2, "a ninth pair, which is a step");
+    memcpy(steps, original, sizeof steps);
+    refused_pair(7, 1, 0, "a step twice, another not at all");
+    refused_pair(0, 1, -1, "a step twice, another not at all");
+    refused_pair(0, 2, 0, "(2, 0) for (1, 0)");
+    refused_pair(5, -1, 2, "(-1, 2) for (-1, 1)");
+    refused_pair(3, 0, 0, "no step at all");
+    refused_pair(6, INT32_MIN, INT32_MAX, "numbers at their ends");
+    holds(step(1) == 0, "the search goes on after refusals", "step");
+}
+
+/* A call in which everything is wrong but perhaps the table. */
+static uint32_t all_wrong(int which) {
+#define WRONG_WINDOW -1, 0, 8193, 0
+#define WRONG_QUERY WRONG_WINDOW, 9999, 9999, 9999, 9999, 257, 257, 257, 257, 1, 257, 257, 257, 257
+#define WRONG_PLACES HITROVZEN_ARRAY(no_slots), numbers, 3, edges, 7
+    static const uint32_t no_slots[] = {0};
+    static const uint16_t no_selection[] = {1, 0};
+    switch (which) {
+    case PREPARE:
+        return hitrovzen_prepare(
+            0, 1025, cells, 0, obstacles, 1, WRONG_WINDOW, 9999, 9999, 9999, 9999, 257, 257, 257, 257, STEPS, block_base, 0, WORK);
+    case BEGIN: return hitrovzen_begin(WRONG_QUERY, 0, 0, WRONG_PLACES, BASES, STEPS, record, 0, WORK, STORE, &index_);
+    case STEP: return hitrovzen_step(WRONG_QUERY, 0, 0, WRONG_PLACES, BASES, STEPS, record, 0, 1, WORK, STORE, &index_);
+    default:
+        return hitrovzen_judge(WRONG_QUERY, WRONG_PLACES, BASES, STEPS, HITROVZEN_ARRAY(no_selection), WORK, &index_, &verdict, &ground);
+    }
+}
+
+/* 19 comes before all else. The next is 1 in prepare, 10 in the others. */
+static void table_first(void) {
+    static const int which[] = {PREPARE, BEGIN, STEP, JUDGE};
+    static const uint32_t next[] = {HITROVZEN_MAP_INVALID, HITROVZEN_GROUPS_INVALID, HITROVZEN_GROUPS_INVALID, HITROVZEN_GROUPS_INVALID};
+    static const char *const name[] = {"prepare", "begin", "step", "judge"};
+    soil(1);
+    keep();
+    memset(told, 0, sizeof told);
+    for (int i = 0; i < 4; i++) {
+        steps[0] = 2;
+        holds(all_wrong(which[i]) == HITROVZEN_STEPS_INVALID, "19 is looked at first", name[i]);
+        steps[0] = 1;
+        holds(all_wrong(which[i]) == next[i], "then 1 or 10", name[i]);
+    }
+    whole();
+    all_as_kept("none of these writes anything");
+}
+
+/* Any order of the eight is taken. The walls, the verdict and the ground are the same, and the way past the first wall is another. */
+static void another_order(void) {
+    static const int32_t diagonals[HITROVZEN_STEPS] = {1, 1, -1, 1, -1, -1, 1, -1, 1, 0, 0, 1, -1, 0, 0, -1};
+    memcpy(steps, diagonals, sizeof diagonals);
+    keep();
+    soil(1);
+    holds(prepare() == 0 && prepare_allow() == 0, "prepare takes another order", "prepare");
+    holds(as_kept(BLOCK_BASE) && as_kept(ALLOW_BASE), "and marks the same", "prepare");
+    holds(begin() == 0 && step(STATES) == 0 && record[HITROVZEN_REASON] == HITROVZEN_EXHAUSTED, "the search is exhausted", "step");
+    holds(as_kept(LAYOUTS), "the walls are the same", "layouts");
+    holds(!as_kept(POINTS), "the ways past them are not", "points");
+    holds(points[2] == 2 && points[3] == 3, "the first of them begins with a diagonal step", "points");
+    holds(judge() == 0 && verdict == HITROVZEN_WALL && ground == 5, "nor is a selection judged otherwise", "judge");
+    work_is_zero("working areas are zero after each of these");
+    memcpy(steps, original, sizeof steps);
+    holds(begin() == 0 && step(STATES) == 0, "the search is exhausted", "step");
+    all_but_work_as_kept("the original's order leaves what it left before");
 }
 
 /* The baseline is the one that was kept, but for this much more at the centres off which POST keeps the mover. */
@@ -356,6 +464,9 @@ int main(void) {
     ground_left();
     too_short();
     refusals();
+    tables();
+    table_first();
+    another_order();
     counted();
     out_of_range();
     in_order(hitrovzen_cover, 255, "cover");

@@ -4,21 +4,21 @@
 use crate::case::Rect;
 
 /// A pixel of the window, or one beside it.
-type Pixel = (i64, i64);
+pub(crate) type Pixel = (i64, i64);
 
 /// A window's centres, row by row, true where closed.
-struct Ground<'a> {
-    window: Rect,
-    closed: &'a [bool],
+pub(crate) struct Ground<'a> {
+    pub(crate) window: Rect,
+    pub(crate) closed: &'a [bool],
 }
 
 impl Ground<'_> {
-    fn number(&self, (x, y): Pixel) -> usize {
+    pub(crate) fn number(&self, (x, y): Pixel) -> usize {
         let (left, top) = (i64::from(self.window.left), i64::from(self.window.top));
         ((y - top) * self.window.width() + x - left) as usize
     }
 
-    fn is_open(&self, (x, y): Pixel) -> bool {
+    pub(crate) fn is_open(&self, (x, y): Pixel) -> bool {
         let across = i64::from(self.window.left)..i64::from(self.window.right);
         let down = i64::from(self.window.top)..i64::from(self.window.bottom);
         across.contains(&x) && down.contains(&y) && !self.closed[self.number((x, y))]

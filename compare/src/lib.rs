@@ -5,8 +5,8 @@
 //! `src/walls/search/probe.rs`), which sets and reads the search's private fields. `grid` holds
 //! pieces of the original `lib.rs`. Everything else here is the judge's own: [`case`] says what a
 //! search is given, [`domain`] which calls are accepted, [`run`] makes the calls, [`verdict`] and
-//! [`ground`] judge a selection, and [`directed`], [`generate`] and [`list`] make the searches whose
-//! answers [`text`] writes.
+//! [`ground`] judge a selection, [`order`] reads the rules for any order of steps, and [`directed`],
+//! [`generate`] and [`list`] make the searches whose answers [`text`] writes.
 
 pub mod case;
 pub mod count;
@@ -16,6 +16,7 @@ pub mod generate;
 pub mod ground;
 pub mod list;
 pub mod maps;
+pub mod order;
 pub mod run;
 pub mod sha256;
 pub mod sheet;

@@ -20,13 +20,15 @@ use crate::{
     values::{Bounds, Limits, Plan, Rect},
 };
 
-/// The inputs of the calls that take placements: a plan, its placements laid flat, and its movers' baselines.
+/// The inputs of the calls that take placements: a plan, its placements laid flat, its movers' baselines, and its steps laid flat,
+/// which reading does not take.
 pub(crate) struct Asked<'a> {
     pub(crate) plan: &'a Plan,
     pub(crate) numbers: &'a [u32],
     pub(crate) edges: &'a [i32],
     pub(crate) block_base: &'a [u8],
     pub(crate) allow_base: &'a [u8],
+    pub(crate) steps: &'a [i32],
 }
 
 impl Asked<'_> {
@@ -50,6 +52,7 @@ pub(crate) fn prepare(
     plan: &Plan,
     obstacles: &[i32],
     mover: Bounds,
+    steps: &[i32],
     baseline: &mut [u8],
     work: &mut Work,
 ) -> Result<(), Refusal> {
@@ -74,6 +77,8 @@ pub(crate) fn prepare(
             mover.top,
             mover.right,
             mover.bottom,
+            steps.as_ptr(),
+            steps.len(),
             baseline.as_mut_ptr(),
             baseline.len(),
             work.counts.as_mut_ptr(),
@@ -173,6 +178,8 @@ pub(crate) fn begin(
             asked.block_base.len(),
             asked.allow_base.as_ptr(),
             asked.allow_base.len(),
+            asked.steps.as_ptr(),
+            asked.steps.len(),
             record.as_mut_ptr(),
             record.len(),
             work.counts.as_mut_ptr(),
@@ -242,6 +249,8 @@ pub(crate) fn step(
             asked.block_base.len(),
             asked.allow_base.as_ptr(),
             asked.allow_base.len(),
+            asked.steps.as_ptr(),
+            asked.steps.len(),
             record.as_mut_ptr(),
             record.len(),
             n,
@@ -376,6 +385,8 @@ pub(crate) fn judge(
             asked.block_base.len(),
             asked.allow_base.as_ptr(),
             asked.allow_base.len(),
+            asked.steps.as_ptr(),
+            asked.steps.len(),
             selection.as_ptr(),
             selection.len(),
             work.counts.as_mut_ptr(),

@@ -9,6 +9,8 @@
 //! the blocked mover, leaves it no route, gives it one again when any single member is lifted, and leaves the allowed mover,
 //! if there is one, open ends and a route.
 //!
+//! A route tries the eight steps in the order of [`Plan::steps`]. Another order may choose other routes, and has the same walls.
+//!
 //! The search is written in Rattle, where every function is proved to meet its contract: every layout listed is a wall, none is
 //! listed twice, and after [`Reason::Exhausted`] the layouts are exactly the walls. This crate is a thin cover over its
 //! C functions ([`raw`]); it is itself not proved.
@@ -54,4 +56,4 @@ pub use answers::{Judgement, Reason, Verdict};
 pub use planner::Planner;
 pub use refusal::{Kind, Mover, Refusal};
 pub use search::{Layout, Layouts, Members, Route, Search};
-pub use values::{Bounds, Limits, Map, Placement, Plan, Position, Rect, Tile};
+pub use values::{Bounds, Limits, Map, Placement, Plan, Position, Rect, Tile, ORIGINAL_STEPS};

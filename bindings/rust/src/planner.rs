@@ -54,6 +54,7 @@ pub struct Planner {
     edges: Vec<i32>,
     block_base: Vec<u8>,
     allow_base: Vec<u8>,
+    steps: Vec<i32>,
     work: Mutex<Work>,
 }
 
@@ -65,13 +66,15 @@ impl Planner {
     ///
     /// # Errors
     ///
-    /// Refusals 1 to 5 and 7 to 9.
+    /// Refusals 19, which is looked at first, 1 to 5 and 7 to 9.
     pub fn new(plan: Plan) -> Result<Self, Refusal> {
         let mut work = Work::new(plan.window);
         let obstacles: Vec<i32> = plan.map.obstacles.iter().flat_map(|r| r.edges()).collect();
+        let steps: Vec<i32> = plan.steps.iter().flat_map(|(x, y)| [*x, *y]).collect();
         let mut prepare = |mover: Bounds| {
             let mut baseline = vec![0; areas::centres(plan.window)];
-            calls::prepare(&plan, &obstacles, mover, &mut baseline, &mut work).map(|()| baseline)
+            calls::prepare(&plan, &obstacles, mover, &steps, &mut baseline, &mut work)
+                .map(|()| baseline)
         };
         let block_base = prepare(plan.block).map_err(|refusal| refusal.of(Mover::Block))?;
         let allow_base = match plan.allow {
@@ -91,6 +94,7 @@ impl Planner {
                 .collect(),
             block_base,
             allow_base,
+            steps,
             work: Mutex::new(work),
             plan,
         })
@@ -238,7 +242,8 @@ impl Planner {
     /// # Errors
     ///
     /// Refusals 10 to 12; 7 to 9 where buildings that were covered close an end or every route, to the blocked mover or else to the
-    /// allowed one; 14 and 15, of which the last tells the index of the first placement that is not taken.
+    /// allowed one; 14 and 15, of which the last tells the index of the first placement that is not taken. Not 19: the steps of a
+    /// planner were looked at when it was made.
     pub fn search(&self, limits: Limits) -> Result<Search<'_>, Refusal> {
         let mut record = [0; RECORD];
         let mut store = Store::new(&self.plan, limits);
@@ -257,7 +262,7 @@ impl Planner {
     ///
     /// # Errors
     ///
-    /// Refusals 10, 14, 15, and 17 for what is no selection.
+    /// Refusals 10, 14, 15, and 17 for what is no selection. Not 19, as for [`Planner::search`].
     pub fn judge(&self, selection: &[u16]) -> Result<Judgement, Refusal> {
         calls::judge(&self.asked(), selection, &mut self.work())
     }
@@ -270,6 +275,7 @@ impl Planner {
             edges: &self.edges,
             block_base: &self.block_base,
             allow_base: &self.allow_base,
+            steps: &self.steps,
         }
     }
 
@@ -307,6 +313,67 @@ mod tests {
         work.queue.fill(u32::MAX);
         work.predecessors.fill(3);
         work.route.fill(u32::MAX);
+    }
+
+    /// What prepare, begin, step and judge answer to this plan with this table of steps, 0 where they accept it. They are lent soiled
+    /// areas and a search that has been stepped, and 19 must leave these as they were.
+    fn answers(planner: &Planner, plan: &Plan, steps: &[i32]) -> [u32; 4] {
+        let limits = Limits {
+            states: 20,
+            results: 5,
+        };
+        let mut record = [0; RECORD];
+        let mut store = Store::new(&planner.plan, limits);
+        let mut baseline = planner.block_base.clone();
+        let begun = planner.asked();
+        calls::begin(&begun, limits, &mut record, &mut planner.work(), &mut store).unwrap();
+        calls::step(
+            &begun,
+            limits,
+            &mut record,
+            2,
+            &mut planner.work(),
+            &mut store,
+        )
+        .unwrap();
+        soil(planner);
+        let work = &mut *planner.work();
+        let asked = Asked {
+            plan,
+            steps,
+            ..begun
+        };
+        [0, 1, 2, 3].map(|call| {
+            let before = format!("{record:?} {store:?} {baseline:?} {work:?}");
+            let answer = match call {
+                0 => calls::prepare(plan, &[], plan.block, steps, &mut baseline, work),
+                1 => calls::begin(&asked, limits, &mut record, work, &mut store),
+                2 => calls::step(&asked, limits, &mut record, 1, work, &mut store),
+                _ => calls::judge(&asked, &[0], work).map(|_| ()),
+            };
+            let after = format!("{record:?} {store:?} {baseline:?} {work:?}");
+            let number = answer.map_or_else(|refusal| refusal.number(), |()| 0);
+            assert!(number != 19 || before == after, "19 writes nothing");
+            number
+        })
+    }
+
+    /// The next is 1 in prepare, 10 in the others. No plan has a table of another length, so the calls themselves are handed one.
+    #[test]
+    fn steps_are_looked_at_before_all_else() {
+        let planner = planner();
+        let mut wrong = planner.plan.clone();
+        wrong.map.cells.clear();
+        wrong.groups = vec![0];
+        let fits = &planner.steps[..];
+        let longer = [fits, &[1, 0]].concat();
+        let twice = [&fits[..14], &fits[..2]].concat();
+        for steps in [&[], &fits[..15], &longer[..17], &longer, &twice] {
+            assert_eq!(answers(&planner, &planner.plan, steps), [19; 4]);
+            assert_eq!(answers(&planner, &wrong, steps), [19; 4]);
+        }
+        assert_eq!(answers(&planner, &planner.plan, fits), [0; 4]);
+        assert_eq!(answers(&planner, &wrong, fits), [1, 10, 10, 10]);
     }
 
     /// What the working areas hold before a call makes no difference, and they are zero after it.

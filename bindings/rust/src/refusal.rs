@@ -40,12 +40,14 @@ pub enum Kind {
     RecordInvalid = 16,
     /// No layout of that number, or no selection.
     SelectionInvalid = 17,
-    // 18 is an answer of the program that reads drive sheets. 19 is reserved.
+    // 18 is an answer of the program that reads drive sheets.
+    /// The steps of a plan are not each of the eight exactly once.
+    StepsInvalid = 19,
     /// A cover that would pass 255, or a lift that would pass zero.
     CountOutOfRange = 20,
 }
 
-const KINDS: [(Kind, &str); 18] = [
+const KINDS: [(Kind, &str); 19] = [
     (Kind::Unnamed, "The archive gave a number that its contract excludes."),
     (Kind::MapInvalid, "The map is not 1 to 1,024 cells each way, has not one byte a cell, or has a cell byte that is neither 0 nor 1."),
     (Kind::WindowInvalid, "The window is empty, has a negative edge, reaches beyond the map or has more than 1,048,576 centres."),
@@ -63,6 +65,7 @@ const KINDS: [(Kind, &str); 18] = [
     (Kind::PlacementInvalid, "A placement has a spec index above 5, no such group, an empty rectangle or a footprint not wholly inside the window; or the rectangle to cover or lift is empty."),
     (Kind::RecordInvalid, "The record and its areas are not those of a search over these inputs."),
     (Kind::SelectionInvalid, "No layout has this number, or the selection does not ascend strictly, names no placement or has more than 6."),
+    (Kind::StepsInvalid, "The table of steps is not 16 numbers, or does not hold each of the eight steps exactly once."),
     (Kind::CountOutOfRange, "A cover would take a count above 255, or a lift one below zero."),
 ];
 
@@ -180,12 +183,12 @@ mod tests {
 
     #[test]
     fn numbers_are_those_of_the_library() {
-        let numbers = (0..=12).chain(14..=17).chain([20]);
+        let numbers = (0..=12).chain(14..=17).chain(19..=20);
         assert!(numbers.eq(KINDS.iter().map(|(kind, _)| *kind as u32)));
         for (kind, _) in KINDS {
             assert_eq!(Refusal::numbered(kind as u32, None).kind(), kind);
         }
-        for number in [13, 18, 19, 21, 99, u32::MAX] {
+        for number in [13, 18, 21, 99, u32::MAX] {
             assert_eq!(Refusal::numbered(number, Some(7)), Refusal::UNNAMED);
         }
     }

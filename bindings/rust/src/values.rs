@@ -208,6 +208,59 @@ impl Limits {
     };
 }
 
+/// The eight steps, x and y, in the order in which the original tries them: the straight ones before the diagonal ones.
+///
+/// A route tries them in the order of [`Plan::steps`], which may be any other order of the same eight. With another order a search
+/// may keep other routes, list its walls in another sequence and evaluate more sets or fewer, so that a limit may stop it with other
+/// walls. But two searches alike except for steps and limits list the same walls where both stop
+/// [`Exhausted`](crate::Reason::Exhausted); and baselines, verdicts and the ground left are the same with every order.
+///
+/// # Examples
+///
+/// A wall with a pixel left open below it, and the way past it, which turns upwards earlier where diagonal steps come first:
+///
+/// ```
+/// use hitrovzen::{Bounds, Limits, Map, Placement, Plan, Planner, Position, Rect, Refusal, ORIGINAL_STEPS};
+///
+/// /// The walls, and the points of the way past the first.
+/// fn found(plan: Plan) -> Result<(Vec<Vec<u16>>, Vec<(u32, u32)>), Refusal> {
+///     let planner = Planner::new(plan)?;
+///     let mut search = planner.search(Limits::WIDEST)?;
+///     search.run()?;
+///     let walls = search.layouts().map(|layout| layout.indexes().to_vec()).collect();
+///     let way = search.route(0)?.map(|point| (point.x, point.y)).collect();
+///     Ok((walls, way))
+/// }
+///
+/// # fn main() -> Result<(), Refusal> {
+/// let (start, end) = (Position::new(0, 1), Position::new(4, 1));
+/// let mut plan = Plan::new(Map::open(1, 1), Rect::new(0, 0, 5, 3), start, end, Bounds::new(0, 1, 0, 0));
+/// plan.allow = Some(Bounds::default());
+/// plan.groups = vec![1];
+/// plan.placements = vec![Placement::solid(0, Rect::new(1, 0, 2, 2))];
+/// assert_eq!(plan.steps, ORIGINAL_STEPS);
+/// let (walls, way) = found(plan.clone())?;
+/// assert_eq!(walls, [[0]]);
+/// assert_eq!(way, [(0, 1), (0, 2), (1, 2), (2, 2), (3, 2), (4, 1)]);
+///
+/// plan.steps = [(1, 1), (-1, 1), (-1, -1), (1, -1), (1, 0), (0, 1), (-1, 0), (0, -1)];
+/// let (walls, way) = found(plan)?;
+/// assert_eq!(walls, [[0]]);
+/// assert_eq!(way, [(0, 1), (0, 2), (1, 2), (2, 2), (3, 1), (4, 1)]);
+/// # Ok(())
+/// # }
+/// ```
+pub const ORIGINAL_STEPS: [(i32, i32); 8] = [
+    (1, 0),
+    (0, 1),
+    (-1, 0),
+    (0, -1),
+    (1, 1),
+    (-1, 1),
+    (-1, -1),
+    (1, -1),
+];
+
 /// All that a planner is asked about.
 #[derive(Clone, Debug, PartialEq, Eq)]
 pub struct Plan {
@@ -227,10 +280,13 @@ pub struct Plan {
     pub groups: Vec<u32>,
     /// The buildings that may be placed, at most 6,144.
     pub placements: Vec<Placement>,
+    /// The order in which a route tries the eight steps from each centre: each of them exactly once, as x and y. [`Plan::new`] takes
+    /// [`ORIGINAL_STEPS`], which tells what another order changes.
+    pub steps: [(i32, i32); 8],
 }
 
 impl Plan {
-    /// A plan with no allowed mover, no groups and no placements.
+    /// A plan with no allowed mover, no groups and no placements, and the original's order of steps.
     pub fn new(map: Map, window: Rect, start: Position, end: Position, block: Bounds) -> Self {
         Self {
             map,
@@ -241,6 +297,7 @@ impl Plan {
             allow: None,
             groups: Vec::new(),
             placements: Vec::new(),
+            steps: ORIGINAL_STEPS,
         }
     }
 

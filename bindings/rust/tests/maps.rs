@@ -1,4 +1,5 @@
-//! The two example maps: their walls are those that the examples tell of, in portions too, and the same from end to start.
+//! The two example maps: their walls are those that the examples tell of, in portions too, and the same from end to start and with
+//! another order of steps.
 
 use std::collections::BTreeSet;
 
@@ -84,6 +85,21 @@ fn the_broad_valley_has_walls_on_both_sides_of_65535() {
     assert_eq!((north.count(), south.count(), listed.len()), (2, 1, 3));
     assert_eq!(listed, sorted(all(back(&plan))));
     assert_eq!(listed, judged(plan));
+}
+
+/// The diagonal steps before the straight ones, from end to start too, and that order reversed.
+#[test]
+fn another_order_of_steps_has_the_same_walls() {
+    for plan in [narrow_ramp::plan(), broad_valley::plan()] {
+        let listed = sorted(all(plan.clone()));
+        let mut other = plan;
+        other.steps.rotate_left(4);
+        assert_eq!(other.steps[..4], [(1, 1), (-1, 1), (-1, -1), (1, -1)]);
+        assert_eq!(listed, sorted(all(other.clone())));
+        assert_eq!(listed, sorted(all(back(&other))));
+        other.steps.reverse();
+        assert_eq!(listed, sorted(all(other)));
+    }
 }
 
 /// Each route leads from start to end over neighbouring centres, by both gaps.

@@ -1,11 +1,13 @@
 //! Plans drawn at random: the walls listed are those found by judging every selection, the ground judged is what steps from the start
-//! come to, raised limits leave the walls found before at the top, rocks that are covered are as good as obstacles and are gone once
-//! they are lifted, and no input, however wild, ends in anything but an answer.
+//! come to, raised limits leave the walls found before at the top, another order of steps leaves walls and judgements the same and
+//! chooses the routes, rocks that are covered are as good as obstacles and are gone once they are lifted, and no input, however wild,
+//! ends in anything but an answer.
 
-use std::collections::BTreeSet;
+use std::collections::{BTreeMap, BTreeSet, VecDeque};
 
 use hitrovzen::{
-    Bounds, Limits, Map, Mover, Placement, Plan, Planner, Position, Reason, Rect, Tile, Verdict,
+    Bounds, Limits, Map, Mover, Placement, Plan, Planner, Position, Reason, Rect, Search, Tile,
+    Verdict, ORIGINAL_STEPS,
 };
 
 /// splitmix64
@@ -118,13 +120,23 @@ fn the_walls_listed_are_those_judged() {
     assert!(larger > 100, "{larger}");
 }
 
-/// The centres that a selection leaves open to the blocked mover.
-fn open(planner: &Planner, selection: &[u16]) -> BTreeSet<(i32, i32)> {
+type Centre = (i32, i32);
+
+fn centre(position: Position) -> Centre {
+    (position.x as i32, position.y as i32)
+}
+
+/// The centres that a selection leaves open to a mover.
+fn open(planner: &Planner, mover: Mover, selection: &[u16]) -> BTreeSet<Centre> {
     let plan = planner.plan();
-    let (window, block) = (plan.window, plan.block);
+    let window = plan.window;
+    let reach = match mover {
+        Mover::Block => plan.block,
+        Mover::Allow => plan.allow.unwrap(),
+    };
     let off = |r: Rect, x: i32, y: i32| {
-        (r.left - block.right as i32..r.right + block.left as i32).contains(&x)
-            && (r.top - block.bottom as i32..r.bottom + block.top as i32).contains(&y)
+        (r.left - reach.right as i32..r.right + reach.left as i32).contains(&x)
+            && (r.top - reach.bottom as i32..r.bottom + reach.top as i32).contains(&y)
     };
     let member_off = |x, y| {
         let mut members = selection.iter().map(|i| &plan.placements[usize::from(*i)]);
@@ -132,29 +144,34 @@ fn open(planner: &Planner, selection: &[u16]) -> BTreeSet<(i32, i32)> {
     };
     (window.top..window.bottom)
         .flat_map(|y| (window.left..window.right).map(move |x| (x, y)))
-        .zip(planner.baseline(Mover::Block))
+        .zip(planner.baseline(mover))
         .filter(|((x, y), count)| **count == 0 && !member_off(*x, *y))
         .map(|(centre, _)| centre)
         .collect()
 }
 
-/// How many of the open centres steps lead to from the start. The side centres of a straight step are its own two.
-fn reached(start: Position, open: &BTreeSet<(i32, i32)>) -> usize {
-    let mut found = BTreeSet::new();
-    let mut ahead = vec![(start.x as i32, start.y as i32)];
-    ahead.retain(|start| open.contains(start));
-    while let Some((x, y)) = ahead.pop() {
-        if !found.insert((x, y)) {
+/// Whether the step from one centre to the other may be taken. The side centres of a straight step are its own two.
+fn taken(open: &BTreeSet<Centre>, (x, y): Centre, (to_x, to_y): Centre) -> bool {
+    let needed = [(to_x, to_y), (to_x, y), (x, to_y)];
+    needed.iter().all(|centre| open.contains(centre))
+}
+
+/// The open centres that steps lead to from this one, each with the least number of steps that it takes.
+fn distances(from: Centre, open: &BTreeSet<Centre>) -> BTreeMap<Centre, usize> {
+    let mut found = BTreeMap::new();
+    let mut ahead = VecDeque::from([(from, 0)]);
+    ahead.retain(|(from, _)| open.contains(from));
+    while let Some((centre, distance)) = ahead.pop_front() {
+        if found.contains_key(&centre) {
             continue;
         }
+        found.insert(centre, distance);
+        let (x, y) = centre;
         let around = (x - 1..=x + 1).flat_map(|to_x| (y - 1..=y + 1).map(move |to_y| (to_x, to_y)));
-        let taken = |(to_x, to_y): &(i32, i32)| {
-            let needed = [(*to_x, *to_y), (*to_x, y), (x, *to_y)];
-            needed.iter().all(|centre| open.contains(centre))
-        };
-        ahead.extend(around.filter(taken));
+        let near = around.filter(|to| taken(open, centre, *to));
+        ahead.extend(near.map(|to| (to, distance + 1)));
     }
-    found.len()
+    found
 }
 
 #[test]
@@ -171,8 +188,8 @@ fn the_ground_judged_is_what_the_start_reaches() {
             planner.cover(*rock).unwrap();
         }
         for selection in selections(&planner) {
-            let open = open(&planner, &selection);
-            let ground = reached(planner.plan().start, &open);
+            let open = open(&planner, Mover::Block, &selection);
+            let ground = distances(centre(planner.plan().start), &open).len();
             let judgement = planner.judge(&selection).unwrap();
             let plan = planner.plan();
             assert_eq!(judgement.ground as usize, ground, "{selection:?} {plan:?}");
@@ -189,19 +206,20 @@ fn the_ground_judged_is_what_the_start_reaches() {
 /// The members of a layout and the route past it.
 type Found = (Vec<u16>, Vec<Position>);
 
+fn layouts(search: &Search<'_>) -> Vec<Found> {
+    let layouts = search.layouts();
+    layouts
+        .map(|layout| (layout.indexes().to_vec(), layout.route().unwrap().collect()))
+        .collect()
+}
+
 /// The sets evaluated and the layouts with their routes, once a search in portions has stopped.
 fn found(planner: &Planner, limits: Limits, n: u32) -> (u32, Vec<Found>) {
     let mut search = planner.search(limits).unwrap();
     let mut before = Vec::new();
     loop {
         let reason = search.step(n).unwrap();
-        let layouts: Vec<_> = search
-            .layouts()
-            .map(|layout| {
-                let route: Vec<Position> = layout.route().unwrap().collect();
-                (layout.indexes().to_vec(), route)
-            })
-            .collect();
+        let layouts = layouts(&search);
         assert!(layouts.starts_with(&before), "the list only grows");
         if reason != Reason::Running {
             return (search.evaluations(), layouts);
@@ -236,6 +254,77 @@ fn raised_limits_extend_the_list() {
     }
     assert!(cut > 500, "{cut}");
     assert!(longer > 100, "{longer}");
+    assert!(routes > 100, "{routes}");
+}
+
+fn shuffled(dice: &mut Dice) -> [(i32, i32); 8] {
+    let mut steps = ORIGINAL_STEPS;
+    for last in 1..8 {
+        steps.swap(last, dice.below(last as u64 + 1) as usize);
+    }
+    steps
+}
+
+/// Of the shortest ways from start to end the one that takes, at the first centre where they part, the step that comes first in the
+/// plan's order.
+fn first_way(plan: &Plan, open: &BTreeSet<Centre>) -> Vec<Position> {
+    let left = distances(centre(plan.end), open);
+    let mut way = vec![plan.start];
+    while let Some(last) = way.last().filter(|last| **last != plan.end) {
+        let at = centre(*last);
+        let ahead = plan.steps.map(|(x, y)| (at.0 + x, at.1 + y));
+        let mut nearer = ahead
+            .iter()
+            .filter(|to| taken(open, at, **to) && left[to] < left[&at]);
+        let (x, y) = nearer.next().unwrap();
+        way.push(Position::new(*x as u32, *y as u32));
+    }
+    way
+}
+
+/// The layouts of an exhausted search, with the routes that the plan's order of steps chooses.
+fn exhausted(planner: &Planner) -> Vec<Found> {
+    let limits = Limits {
+        states: 1_000,
+        results: 32,
+    };
+    let mut search = planner.search(limits).unwrap();
+    assert_eq!(search.run(), Ok(Reason::Exhausted));
+    let layouts = layouts(&search);
+    let plan = planner.plan();
+    for (wall, route) in &layouts {
+        let way = plan
+            .allow
+            .map(|_| first_way(plan, &open(planner, Mover::Allow, wall)));
+        assert_eq!(*route, way.unwrap_or_default(), "{plan:?}");
+    }
+    layouts
+}
+
+#[test]
+fn another_order_has_the_same_walls() {
+    let mut dice = Dice(20_261_119);
+    let (mut walls, mut sequences, mut routes) = (0, 0, 0);
+    for _ in 0..8_000 {
+        let (plan, steps) = (small(&mut dice), shuffled(&mut dice));
+        let Ok(original) = Planner::new(plan.clone()) else {
+            continue;
+        };
+        let other = Planner::new(Plan { steps, ..plan }).unwrap();
+        assert_eq!(counts(&other), counts(&original));
+        for selection in selections(&original) {
+            assert_eq!(other.judge(&selection), original.judge(&selection));
+        }
+        let [first, second] = [&original, &other].map(exhausted);
+        let [one, two] = [&first, &second].map(|found| found.iter().map(|(wall, _)| wall));
+        let same = one.clone().collect::<BTreeSet<_>>() == two.clone().collect();
+        assert!(same && one.len() == two.len(), "{:?}", other.plan());
+        walls += one.len();
+        sequences += usize::from(!one.eq(two));
+        routes += second.iter().filter(|found| !first.contains(found)).count();
+    }
+    assert!(walls > 2_000, "{walls}");
+    assert!(sequences > 50, "{sequences}");
     assert!(routes > 100, "{routes}");
 }
 
@@ -362,6 +451,10 @@ fn wild(dice: &mut Dice) -> Plan {
             collision: rect(dice),
         });
     }
+    if dice.below(16) == 0 {
+        let at = dice.below(8) as usize;
+        plan.steps[at] = dice.one_of(&[(1, 0), (0, 0), (2, 0), (-1, 1), (i32::MIN, i32::MAX)]);
+    }
     plan
 }
 
@@ -370,7 +463,7 @@ fn every_call_is_answered() {
     let mut dice = Dice(65_535);
     let mut seen = BTreeSet::new();
     let mut note = |number: u32| {
-        assert!((1..=12).chain(14..=17).chain([20]).any(|n| n == number));
+        assert!((1..=12).chain(14..=17).chain(19..=20).any(|n| n == number));
         seen.insert(number);
     };
     for _ in 0..20_000 {
@@ -410,7 +503,7 @@ fn every_call_is_answered() {
             note(refusal.number());
         }
     }
-    for number in [1, 2, 3, 4, 5, 7, 8, 9, 10, 11, 12, 15, 17, 20] {
+    for number in [1, 2, 3, 4, 5, 7, 8, 9, 10, 11, 12, 15, 17, 19, 20] {
         assert!(seen.contains(&number), "{number} was not met");
     }
 }

@@ -2,6 +2,7 @@
 
 use hitrovzen::{
     Bounds, Kind, Limits, Map, Mover, Placement, Plan, Planner, Position, Rect, Refusal,
+    ORIGINAL_STEPS,
 };
 
 const LIMITS: Limits = Limits {
@@ -262,6 +263,42 @@ fn rectangles_that_are_empty() {
 }
 
 #[test]
+fn steps() {
+    let refusal = prepared(|plan| plan.steps[0] = (2, 0));
+    assert_eq!((refusal.kind(), refusal.number()), (Kind::StepsInvalid, 19));
+    assert_eq!(
+        refusal.to_string(),
+        "refused with 19: The table of steps is not 16 numbers, or does not hold each of the eight steps exactly once."
+    );
+    assert_eq!(
+        (refusal.index(), refusal.mover()),
+        (None, Some(Mover::Block))
+    );
+    for no_step in [
+        (0, 0),
+        (-2, 0),
+        (0, 2),
+        (2, 1),
+        (1, -2),
+        (i32::MIN, i32::MIN),
+        (i32::MAX, i32::MAX),
+    ] {
+        for at in 0..8 {
+            assert_eq!(prepared(|plan| plan.steps[at] = no_step), refusal);
+        }
+    }
+    // one of the eight twice, another not at all
+    for (at, own) in ORIGINAL_STEPS.into_iter().enumerate() {
+        for other in ORIGINAL_STEPS.into_iter().filter(|step| *step != own) {
+            assert_eq!(prepared(|plan| plan.steps[at] = other), refusal);
+        }
+    }
+    for step in ORIGINAL_STEPS {
+        assert_eq!(prepared(|plan| plan.steps = [step; 8]), refusal);
+    }
+}
+
+#[test]
 fn counts() {
     let mut planner = Planner::new(plan()).unwrap();
     let post = Rect::new(2, 1, 4, 3);
@@ -336,6 +373,14 @@ fn the_first_of_several() {
         plan.groups = vec![0];
     };
     assert_eq!(prepared(all).number(), 1);
+    let refusal = prepared(|plan| {
+        all(plan);
+        plan.map.across = 0;
+        plan.map.obstacles = vec![Rect::new(6, 6, 6, 6)];
+        plan.placements[0].spec = 6;
+        plan.steps[7] = plan.steps[0];
+    });
+    assert_eq!(refusal.number(), 19);
     let mut most = plan();
     most.groups = vec![0];
     most.placements[0].spec = 6;

@@ -1,9 +1,11 @@
-//! Times the original search and its port: same inputs, same driver, in turn. A line a case.
+//! Times the original search and its port: same inputs, same driver, in turn. A line a case. The lines "diagonals first" have the port's
+//! search in that order of steps, which is compared with the judge's reading, beside the original's in its own.
 //!
 //! `bench` prints the lines, `bench --markdown` the rows of the table in docs/PERFORMANCE.md. `bench --only TEXT` takes the cases whose
-//! name or window has the text, so `bench --only drag` those of cover and lift and `bench --only judge` those of judging. With `--port` or
-//! `--original` besides it runs one side once, for a profiler. `--cpu` takes the processor's time of this thread in place of the time on
-//! the wall: on a machine that does other work too, what it does meanwhile is then left out.
+//! name or window has the text, so `bench --only drag` those of cover and lift, `bench --only judge` those of judging and
+//! `bench --only diagonals` those in another order. With `--port` or `--original` besides it runs one side once, for a profiler.
+//! `--cpu` takes the processor's time of this thread in place of the time on the wall: on a machine that does other work too, what it
+//! does meanwhile is then left out.
 
 mod clock;
 mod inputs;
@@ -13,8 +15,9 @@ mod port;
 mod side;
 
 use inputs::{Corridor, LARGE, MIDDLE, SMALL, Size};
+use judge::order::{DIAGONALS_FIRST, ORIGINAL_STEPS};
 use judge::{Baselines, Case};
-use measure::{Line, Measured, Work, measure, timed};
+use measure::{Line, Measured, Work, measure, read, timed};
 use original::Original;
 use port::Port;
 use side::Buffers;
@@ -32,6 +35,7 @@ fn line(
         case: Box::new(move || case(size)),
         work,
         buffers,
+        steps: &ORIGINAL_STEPS,
     }
 }
 
@@ -206,6 +210,26 @@ fn judgings(size: Size) -> Vec<Line> {
     ]
 }
 
+/// Searches of lines above in another order of steps: one route, several, kept routes, long routes with many placements beside them.
+fn diagonals_first(size: Size) -> Vec<Line> {
+    let few = several(size);
+    let names = [
+        "one evaluation".into(),
+        format!("{few} evaluations, one call"),
+        "allowed mover".into(),
+        "winding corridor with stones, runs across, 3 evaluations".into(),
+    ];
+    let above = at_every_size(size).into_iter().chain(winding(size));
+    let named = above.filter(|line| names.contains(&line.name) && line.buffers != Buffers::Rubbish);
+    named
+        .map(|line| Line {
+            name: format!("{}, diagonals first", line.name),
+            steps: &DIAGONALS_FIRST,
+            ..line
+        })
+        .collect()
+}
+
 fn window((width, height): Size) -> String {
     format!("{width} × {height}")
 }
@@ -257,7 +281,8 @@ fn main() {
         .chain([MIDDLE, LARGE].into_iter().flat_map(winding))
         .chain(many_on_small())
         .chain([MIDDLE, LARGE].into_iter().flat_map(drags))
-        .chain([SMALL, MIDDLE, LARGE].into_iter().flat_map(judgings));
+        .chain([SMALL, MIDDLE, LARGE].into_iter().flat_map(judgings))
+        .chain([MIDDLE, LARGE].into_iter().flat_map(diagonals_first));
     if has("--cpu") {
         clock::take_processor_time();
     }
@@ -271,7 +296,8 @@ fn main() {
         }
         let case = (line.case)();
         let baselines = Baselines::prepare(&case).expect("accepted ground");
-        let mut port = Port::new(&case, &baselines);
+        let read = read(&case, &baselines, &line);
+        let mut port = Port::new(&case, &baselines, line.steps);
         let mut original = Original::new(&case, &baselines);
         if has("--port") || has("--original") {
             let side: &mut dyn side::Side = if has("--port") {
@@ -284,7 +310,7 @@ fn main() {
         }
         tell(
             &line,
-            &measure(&mut port, &mut original, &line),
+            &measure(&mut port, &mut original, read.as_ref(), &line),
             has("--markdown"),
         );
     }

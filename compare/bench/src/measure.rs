@@ -3,13 +3,14 @@
 use std::collections::HashSet;
 use std::time::Duration;
 
-use judge::{Case, Rect, Snapshot};
+use judge::order::{ORIGINAL_STEPS, Ordered};
+use judge::{Baselines, Case, Rect, Snapshot};
 
 use crate::clock;
 use crate::inputs::Size;
 use crate::original::Original;
 use crate::port::Port;
-use crate::side::{Buffers, Side};
+use crate::side::{Buffers, Outcome, Side};
 
 pub enum Work {
     Prepare,
@@ -36,6 +37,8 @@ pub struct Line {
     pub case: Box<dyn Fn() -> Case>,
     pub work: Work,
     pub buffers: Buffers,
+    /// The port's order of steps. The original has its own alone.
+    pub steps: &'static [i32],
 }
 
 pub struct Measured {
@@ -110,9 +113,42 @@ fn median(mut times: Vec<f64>) -> f64 {
     times[times.len() / 2]
 }
 
-/// What both came to, in words; it must be the same. `whole` compares the visited sets as well.
-fn compared(port: &dyn Side, original: &dyn Side, line: &Line, whole: bool) -> String {
+/// What a search in another order of steps than the original's comes to, by the judge's reading. It is not timed.
+pub fn read(case: &Case, baselines: &Baselines, line: &Line) -> Option<Snapshot> {
+    if line.steps == ORIGINAL_STEPS {
+        return None;
+    }
+    let Work::Steps {
+        evaluations,
+        held: None,
+        ..
+    } = line.work
+    else {
+        panic!("{}: only a begun search is read", line.name);
+    };
+    let mut search = Ordered::begin_on(case, baselines, line.steps).expect("an accepted begin");
+    search.step(evaluations);
+    Some(search.snapshot())
+}
+
+/// What both came to, in words; it must be the same. `whole` compares the visited sets as well. In another order of steps the port's
+/// search must be the one that was read.
+fn compared(
+    port: &dyn Side,
+    original: &dyn Side,
+    read: Option<&Snapshot>,
+    line: &Line,
+    whole: bool,
+) -> String {
     let name = &line.name;
+    if let Some(read) = read {
+        let outcome = port.outcome();
+        assert!(outcome == Outcome::of(read), "{name}: two outcomes");
+        let wide = |set: &Vec<u32>| set.iter().map(|&member| member as usize).collect();
+        let visited: Vec<Vec<usize>> = read.visited.iter().map(wide).collect();
+        assert!(port.visited() == visited, "{name}: two visited rows");
+        return outcome.to_string();
+    }
     match line.work {
         Work::Prepare | Work::Drag { .. } => {
             let same = port.baseline() == original.baseline();
@@ -154,9 +190,14 @@ fn repeats(line: &Line, first: [f64; 2]) -> [u32; 2] {
 
 /// The first pair tells how often a call is repeated in a run and how many runs there are: 9, 5 where the pair takes above half a second,
 /// 3 above two seconds; above eight the pair is all.
-pub fn measure(port: &mut Port, original: &mut Original, line: &Line) -> Measured {
+pub fn measure(
+    port: &mut Port,
+    original: &mut Original,
+    read: Option<&Snapshot>,
+    line: &Line,
+) -> Measured {
     let first = [timed(port, line), timed(original, line)].map(|time| time.as_secs_f64() * 1e3);
-    let done = compared(port, original, line, true);
+    let done = compared(port, original, read, line, true);
     let pair = first[0] + first[1];
     let repeats = repeats(line, first);
     let runs = match pair {
@@ -169,7 +210,7 @@ pub fn measure(port: &mut Port, original: &mut Original, line: &Line) -> Measure
     for _ in 0..runs {
         times[0].push(run(port, line, repeats[0]));
         times[1].push(run(original, line, repeats[1]));
-        compared(port, original, line, false);
+        compared(port, original, read, line, false);
     }
     if runs == 0 {
         times = first.map(|time| vec![time]);

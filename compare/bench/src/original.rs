@@ -143,12 +143,7 @@ impl Side for Original<'_> {
     }
 
     fn outcome(&self) -> Outcome {
-        let held = probe::read(self.held(), self.case, Vec::new());
-        Outcome {
-            reason: held.reason,
-            evaluations: held.evaluations,
-            layouts: held.layouts,
-        }
+        Outcome::of(&probe::read(self.held(), self.case, Vec::new()))
     }
 
     fn visited(&self) -> Vec<Vec<usize>> {

@@ -19,6 +19,7 @@ pub struct Port<'a> {
     edges: Vec<i32>,
     block_base: Vec<u8>,
     allow_base: Vec<u8>,
+    steps: &'static [i32],
     baseline: Vec<u8>,
     rec: [u32; RECORD],
     counts: Vec<i32>,
@@ -62,7 +63,7 @@ fn bytes_of(baseline: &[bool]) -> Vec<u8> {
 }
 
 impl<'a> Port<'a> {
-    pub fn new(case: &'a Case, baselines: &Baselines) -> Self {
+    pub fn new(case: &'a Case, baselines: &Baselines, steps: &'static [i32]) -> Self {
         let centres = case.centres();
         let corners = (case.window.width() as usize + 1) * (case.window.height() as usize + 1);
         let places = &case.placements;
@@ -84,6 +85,7 @@ impl<'a> Port<'a> {
                 .collect(),
             block_base: bytes_of(&baselines.block),
             allow_base: bytes_of(baselines.allow.as_deref().unwrap_or(&[])),
+            steps,
             baseline: vec![0; centres],
             rec: [0; RECORD],
             counts: vec![0; corners],
@@ -182,6 +184,8 @@ impl Side for Port<'_> {
                 block.top,
                 block.right,
                 block.bottom,
+                self.steps.as_ptr(),
+                self.steps.len(),
                 self.baseline.as_mut_ptr(),
                 self.baseline.len(),
                 self.counts.as_mut_ptr(),
@@ -242,6 +246,8 @@ impl Side for Port<'_> {
                 self.block_base.len(),
                 self.allow_base.as_ptr(),
                 self.allow_base.len(),
+                self.steps.as_ptr(),
+                self.steps.len(),
                 self.rec.as_mut_ptr(),
                 self.rec.len(),
                 self.counts.as_mut_ptr(),
@@ -311,6 +317,8 @@ impl Side for Port<'_> {
                 self.block_base.len(),
                 self.allow_base.as_ptr(),
                 self.allow_base.len(),
+                self.steps.as_ptr(),
+                self.steps.len(),
                 self.rec.as_mut_ptr(),
                 self.rec.len(),
                 evaluations,
@@ -435,6 +443,8 @@ impl Side for Port<'_> {
                 self.block_base.len(),
                 self.allow_base.as_ptr(),
                 self.allow_base.len(),
+                self.steps.as_ptr(),
+                self.steps.len(),
                 selection.as_ptr(),
                 selection.len(),
                 self.counts.as_mut_ptr(),

@@ -74,6 +74,16 @@ pub struct Outcome {
     pub layouts: Vec<Layout>,
 }
 
+impl Outcome {
+    pub fn of(held: &Snapshot) -> Self {
+        Self {
+            reason: held.reason,
+            evaluations: held.evaluations,
+            layouts: held.layouts.clone(),
+        }
+    }
+}
+
 impl fmt::Display for Outcome {
     fn fmt(&self, f: &mut fmt::Formatter<'_>) -> fmt::Result {
         let (reason, evaluations) = (self.reason, self.evaluations);

@@ -1,8 +1,9 @@
 //! One call made to both sides from the same values, and everything it leaves compared. The expected answer of a refusal is
-//! `rules`'; what an accepted call leaves is the original's.
+//! `rules`'; what an accepted call leaves is the original's, and in another order of steps than the original's that of the judge's `order`.
 
+use judge::order::{ORIGINAL_STEPS, Ordered};
 use judge::walls::search::probe;
-use judge::{Baselines, Case, Mover, Search, Snapshot};
+use judge::{Baselines, Case, Mover, Search, Snapshot, count};
 
 use crate::covers::{self, Change};
 use crate::port;
@@ -48,11 +49,18 @@ fn same_store(call: &str, expected: &Store, found: &Store) -> Result<(), Differe
     same_area(call, "points", &expected.points, &found.points)
 }
 
-/// Prepares a mover. The answer's number, once both agree.
-pub fn prepare(terrain: &Terrain, query: &Query, mover: [u32; 4], baseline: &mut [u8], work: &mut Work) -> Result<u32, Difference> {
-    let early = rules::prepare(terrain, query, mover, baseline, work);
+/// Prepares a mover. The answer's number, once both agree. What prepare leaves is the original's in every order of steps.
+pub fn prepare(
+    terrain: &Terrain,
+    query: &Query,
+    mover: [u32; 4],
+    steps: &[i32],
+    baseline: &mut [u8],
+    work: &mut Work,
+) -> Result<u32, Difference> {
+    let early = rules::prepare(terrain, query, mover, steps, baseline, work);
     let (before, work_before) = (baseline.to_vec(), work.clone());
-    let answer = port::prepare(terrain, query, mover, baseline, work);
+    let answer = port::prepare(terrain, query, mover, steps, baseline, work);
     if let Err((number, _)) = early {
         same("prepare's answer", &number, &answer)?;
         same_area("prepare", "baseline", &before, baseline)?;
@@ -91,12 +99,69 @@ fn bare(query: &Query) -> Case {
         edges: Vec::new(),
         block_base: Vec::new(),
         allow_base: Vec::new(),
+        steps: Vec::new(),
     }
     .case()
 }
 
-/// Begins. The original's search where the call is accepted, else the refusal.
-pub fn begin(inputs: &Inputs, store: &mut Store, work: &mut Work) -> Result<Result<Search, u32>, Difference> {
+/// The search that the port's is held to: the original in its own order of steps, the judge's reading in another.
+#[derive(Debug)]
+pub enum Held {
+    Original(Box<Search>),
+    Reading(Box<Ordered>),
+}
+
+impl Held {
+    /// A search that begin started.
+    fn begin(inputs: &Inputs) -> Result<Self, u32> {
+        let (case, baselines) = (inputs.case(), inputs.baselines());
+        if inputs.steps == ORIGINAL_STEPS {
+            return Search::begin_on(&case, &baselines).map(Box::new).map(Self::Original);
+        }
+        Ordered::begin_on(&case, &baselines, &inputs.steps).map(Box::new).map(Self::Reading)
+    }
+
+    /// One with a record that passes 16.
+    fn set(inputs: &Inputs, held: &Snapshot) -> Result<Self, u32> {
+        let (case, baselines) = (inputs.case(), inputs.baselines());
+        if inputs.steps == ORIGINAL_STEPS {
+            return Search::set_on(&case, &baselines, held).map(Box::new).map(Self::Original);
+        }
+        Ordered::set_on(&case, &baselines, &inputs.steps, held).map(Box::new).map(Self::Reading)
+    }
+
+    fn step(&mut self, n: u32) {
+        match self {
+            Self::Original(search) => search.step(n),
+            Self::Reading(search) => search.step(n),
+        }
+    }
+
+    pub fn snapshot(&self) -> Snapshot {
+        match self {
+            Self::Original(search) => search.snapshot(),
+            Self::Reading(search) => search.snapshot(),
+        }
+    }
+
+    pub fn case(&self) -> &Case {
+        match self {
+            Self::Original(search) => search.case(),
+            Self::Reading(search) => search.case(),
+        }
+    }
+
+    /// The number of a set's extensions that cover no point of its route.
+    pub fn touching_by_side(&self, set: &[u32]) -> usize {
+        match self {
+            Self::Original(search) => count::touching_by_side(search, set),
+            Self::Reading(search) => search.touching_by_side(set),
+        }
+    }
+}
+
+/// Begins. The search that the port's is held to where the call is accepted, else the refusal.
+pub fn begin(inputs: &Inputs, store: &mut Store, work: &mut Work) -> Result<Result<Held, u32>, Difference> {
     let rule = rules::begin(inputs, work, store);
     let (before, work_before) = (store.clone(), work.clone());
     let answer = port::begin(inputs, store, work);
@@ -108,26 +173,24 @@ pub fn begin(inputs: &Inputs, store: &mut Store, work: &mut Work) -> Result<Resu
         same_work("begin", &expected, work)?;
         return Ok(Err(number));
     }
-    let search = Search::begin_on(&inputs.case(), &inputs.baselines())
-        .map_err(|number| format!("begin: the two readings of the rules differ: accepted, and {number}"))?;
+    let search = Held::begin(inputs).map_err(|number| format!("begin: the two readings of the rules differ: accepted, and {number}"))?;
     same_store("begin", &before.image(&search.snapshot(), inputs.needs()), store)?;
     same_work("begin", &work_before.cleared(&inputs.query), work)?;
     Ok(Ok(search))
 }
 
-/// The original's search that holds what an accepted record says.
-pub fn original(inputs: &Inputs, store: &Store) -> Result<Search, Difference> {
-    Search::set_on(&inputs.case(), &inputs.baselines(), &store.held(inputs))
-        .map_err(|number| format!("the two readings of the rules differ: accepted, and {number}"))
+/// The search that holds what an accepted record says.
+pub fn set(inputs: &Inputs, store: &Store) -> Result<Held, Difference> {
+    Held::set(inputs, &store.held(inputs)).map_err(|number| format!("the two readings of the rules differ: accepted, and {number}"))
 }
 
-/// Steps by `n`; `search` is the original's, made from the record where there is none at hand.
+/// Steps by `n`; `search` is what the port's is held to, made from the record where there is none at hand.
 pub fn step(
     inputs: &Inputs,
     store: &mut Store,
     n: u32,
     work: &mut Work,
-    search: Option<&mut Search>,
+    search: Option<&mut Held>,
 ) -> Result<Result<Snapshot, u32>, Difference> {
     let rule = rules::step(inputs, work, store);
     let (before, work_before) = (store.clone(), work.clone());
@@ -144,7 +207,7 @@ pub fn step(
             search.snapshot()
         }
         None => {
-            let mut search = original(inputs, &before)?;
+            let mut search = set(inputs, &before)?;
             search.step(n);
             search.snapshot()
         }
@@ -174,8 +237,9 @@ pub fn read(inputs: &Inputs, store: &Store, k: u32) -> Result<u32, Difference> {
     Ok(0)
 }
 
-/// Judges a selection: the refusal, or what the selection comes to.
-pub fn judge(inputs: &Inputs, selection: &[u16], work: &mut Work, search: Option<&Search>) -> Result<Result<Judged, u32>, Difference> {
+/// Judges a selection: the refusal, or what the selection comes to. The verdict is the original's, and in another order of steps also that
+/// of the judge's `order`.
+pub fn judge(inputs: &Inputs, selection: &[u16], work: &mut Work, search: Option<&Held>) -> Result<Result<Judged, u32>, Difference> {
     let rule = rules::judge(inputs, work, selection);
     let work_before = work.clone();
     let found = port::judge(inputs, selection, work);
@@ -186,14 +250,19 @@ pub fn judge(inputs: &Inputs, selection: &[u16], work: &mut Work, search: Option
         return Ok(Err(number));
     }
     let expected = match search {
-        Some(search) => rules::judged(inputs, search.original(), selection),
-        None => {
+        Some(Held::Original(search)) => rules::judged(inputs, search.original(), selection),
+        _ => {
             let Baselines { block, allow } = inputs.baselines();
             let case = inputs.case();
             let held = Snapshot::begun(case.placements.len() as u32);
             rules::judged(inputs, &probe::build(&case, &block, allow.as_deref(), &held), selection)
         }
     };
+    if inputs.steps != ORIGINAL_STEPS {
+        let set: Vec<u32> = selection.iter().map(|&member| u32::from(member)).collect();
+        let verdict = Ordered::on(&inputs.case(), &inputs.baselines(), &inputs.steps).verdict(&set);
+        same("the verdict read in another order of steps, beside the original's", &expected.verdict, &verdict)?;
+    }
     let told = (expected.verdict, expected.ground.left);
     same(&format!("judge's verdict and ground of {selection:?}"), &told, &(found.verdict, found.ground))?;
     same_work("judge", &work_before.cleared(&inputs.query), work)?;

@@ -3,6 +3,7 @@
 
 use judge::generate::{Generator, Rng};
 use judge::list::Item;
+use judge::order::ORIGINAL_STEPS;
 use judge::{Mover, Rect};
 
 use crate::both::{self, Difference};
@@ -80,7 +81,7 @@ fn one(item: &Item, seed: u64, reached: &mut Reached) -> Result<(), String> {
 fn search(item: &Item, seed: u64, reached: &mut Reached) -> Result<(), Difference> {
     let mut rng = Rng::new(seed);
     let mut work = Work::clean(&Query::of(&item.case));
-    let Some(mut inputs) = searches::inputs(item, &mut work, &mut rng, &mut reached.calls)? else {
+    let Some(mut inputs) = searches::inputs(item, &ORIGINAL_STEPS, &mut work, &mut rng, &mut reached.calls)? else {
         return Ok(());
     };
     let covers = rng.chance(3, 5);
@@ -226,7 +227,7 @@ fn one_large(item: &Item, seed: u64, reached: &mut Reached) -> Result<(), String
     let told = |difference: String| format!("DIFFERENCE {difference}\n300 × 260 over counts above 1");
     let mut rng = Rng::new(seed);
     let mut work = Work::clean(&Query::of(&item.case));
-    let made = searches::inputs(item, &mut work, &mut rng, &mut reached.calls).map_err(told)?;
+    let made = searches::inputs(item, &ORIGINAL_STEPS, &mut work, &mut rng, &mut reached.calls).map_err(told)?;
     let mut inputs = made.ok_or("300 × 260 over counts above 1: prepare refuses it")?;
     let (width, height) = inputs.query.size();
     for (_, counts) in inputs.grounds() {

@@ -3,9 +3,10 @@
 use std::collections::BTreeMap;
 use std::fmt;
 
+use judge::Snapshot;
 use judge::verdict::NAMES as VERDICTS;
-use judge::{Search, Snapshot, count};
 
+use crate::both::Held;
 use crate::rules::{Ground, Judged};
 
 pub const CALLS: [&str; 7] = ["prepare", "begin", "step", "read", "judge", "cover", "lift"];
@@ -108,7 +109,7 @@ impl Counts {
     }
 
     /// A search after its last portion.
-    pub fn search(&mut self, search: &Search, last: &Snapshot) {
+    pub fn search(&mut self, search: &Held, last: &Snapshot) {
         self.begun += 1;
         self.evaluations += u64::from(last.evaluations);
         self.reasons[last.reason as usize - 1] += 1;
@@ -123,7 +124,7 @@ impl Counts {
         self.keeping_routes += u64::from(kept > 0);
         self.points += last.layouts.iter().map(|layout| layout.route.len() as u64).sum::<u64>();
         let small = search.case().centres() <= SMALL;
-        self.side_touches += u64::from(small && last.visited.iter().any(|set| count::touching_by_side(search, set) > 0));
+        self.side_touches += u64::from(small && last.visited.iter().any(|set| search.touching_by_side(set) > 0));
     }
 
     /// The calls of searches whose walls and reasons are printed by themselves and not held to anything here.

@@ -3,6 +3,7 @@
 
 use judge::generate::Rng;
 use judge::list::Item;
+use judge::order::ORIGINAL_STEPS;
 use judge::{Bounds, Case, List, Placement, Rect, Snapshot};
 
 use crate::counts::Counts;
@@ -47,7 +48,8 @@ fn high(case: &Case, members: &[u32], number: &dyn Fn(u32, u32) -> u32) -> bool 
 
 fn one(name: &str, item: &Item, seed: u64, counts: &mut Counts) -> Result<Snapshot, String> {
     let mut own = Counts::default();
-    let last = searches::run(item, seed, &mut own).map_err(|difference| format!("DIFFERENCE {difference}\n{name}\n{:?}", item.case))?;
+    let last = searches::run(item, &ORIGINAL_STEPS, seed, &mut own)
+        .map_err(|difference| format!("DIFFERENCE {difference}\n{name}\n{:?}", item.case))?;
     let last = last.ok_or(format!("{name}: prepare refuses it"))?;
     let longest = last.layouts.iter().map(|layout| layout.route.len()).max().unwrap_or(0);
     println!(

@@ -11,6 +11,7 @@ mod covers;
 mod large;
 mod medium;
 mod million;
+mod orders;
 mod port;
 mod refusals;
 mod rules;
@@ -24,6 +25,7 @@ use std::process::ExitCode;
 use std::time::Instant;
 
 use judge::generate::{Generator, Rng};
+use judge::order::ORIGINAL_STEPS;
 use judge::{directed, list, verdict};
 
 use counts::Counts;
@@ -71,14 +73,15 @@ fn run(seed: u64, searches: u64) -> Result<(), String> {
     large::run(seed, &mut counts, &progress)?;
     million::run(&mut counts)?;
     progress("1,000,000 points done");
+    orders::run(seed, searches / 8, &progress)?;
     print!("{counts}");
     let short = counts.short_of(searches);
     if short.is_empty() { Ok(()) } else { Err(short.join("\n")) }
 }
 
 fn one(item: &list::Item, seed: u64, counts: &mut Counts) -> Result<(), String> {
-    searches::run(item, seed, counts).map(drop).map_err(|difference| {
-        let differs = |item: &list::Item| searches::run(item, seed, &mut Counts::default()).err();
+    searches::run(item, &ORIGINAL_STEPS, seed, counts).map(drop).map_err(|difference| {
+        let differs = |item: &list::Item| searches::run(item, &ORIGINAL_STEPS, seed, &mut Counts::default()).err();
         let (item, difference) = shrink::shrink(item, difference, &differs);
         format!("DIFFERENCE {difference}\nseed of the areas {seed}\n{item:#?}")
     })
@@ -113,7 +116,7 @@ fn small(seed: u64, searches: u64, counts: &mut Counts, progress: &dyn Fn(&str))
 /// The judged selections of input P (docs/RULES.md, 9.8).
 fn judged() -> Result<(), String> {
     let case = directed::p();
-    let inputs = Inputs::of(&case, &vec![false; case.centres()], None);
+    let inputs = Inputs::of(&case, &vec![false; case.centres()], None, &ORIGINAL_STEPS);
     let mut work = Work::clean(&inputs.query);
     for (selection, name, ground) in [(&[][..], "Open", 15), (&[0], "Wall", 6), (&[0, 1], "Overlap", 6)] {
         both::judge(&inputs, selection, &mut work, None)?.map_err(|number| format!("{selection:?} of P is refused with {number}"))?;

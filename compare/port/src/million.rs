@@ -1,6 +1,7 @@
 //! The 1,000,000 points at their edge. The allowed mover walks a winding way of chosen length, the blocked one a straight way
 //! that single centres close. Two of the centres may lie on a short cut of the winding way: a wall there makes it two longer.
 
+use judge::order::ORIGINAL_STEPS;
 use judge::{Bounds, Case, Placement, Reason, Rect};
 
 use crate::both;
@@ -66,7 +67,7 @@ fn inputs(length: usize, rows: &[usize]) -> Inputs {
         groups: vec![1],
         placements: rows.iter().map(place).collect(),
     };
-    Inputs::of(&case, &block, Some(&allow))
+    Inputs::of(&case, &block, Some(&allow), &ORIGINAL_STEPS)
 }
 
 /// Runs it in portions, and holds it to the points kept and the reason; then the record with one point more is refused.

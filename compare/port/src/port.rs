@@ -47,14 +47,14 @@ macro_rules! call {
     (@ $name:ident, ($($done:tt)*); place $e:expr; $($rest:tt)*) => { call!(@ $name, ($($done)* &raw mut $e,); $($rest)*) };
 }
 
-pub fn prepare(terrain: &Terrain, query: &Query, mover: [u32; 4], baseline: &mut [u8], work: &mut Work) -> u32 {
+pub fn prepare(terrain: &Terrain, query: &Query, mover: [u32; 4], steps: &[i32], baseline: &mut [u8], work: &mut Work) -> u32 {
     let [left, top, right, bottom] = query.window;
     let mut answer = call!(@ hitrovzen_prepare, ();
         number terrain.across; number terrain.down; slice terrain.cells; slice terrain.obstacles;
         number left; number top; number right; number bottom;
         number query.start[0]; number query.start[1]; number query.end[0]; number query.end[1];
         number mover[0]; number mover[1]; number mover[2]; number mover[3];
-        area baseline; area work.counts; area work.map; area work.queue; area work.predecessors; area work.route;);
+        slice steps; area baseline; area work.counts; area work.map; area work.queue; area work.predecessors; area work.route;);
     let spoil = Spoiler::after(PREPARE, answer);
     spoil.number("answer", &mut answer);
     spoil.area("baseline", "past the baseline", baseline);
@@ -67,7 +67,7 @@ pub fn begin(inputs: &Inputs, store: &mut Store, work: &mut Work) -> Answer {
     let mut answer = call!(hitrovzen_begin, &inputs.query;
         number inputs.states; number inputs.results;
         slice inputs.groups; slice inputs.numbers; slice inputs.edges; slice inputs.block_base; slice inputs.allow_base;
-        area store.record;
+        slice inputs.steps; area store.record;
         area work.counts; area work.map; area work.queue; area work.predecessors; area work.route;
         area store.lists; area store.visited; area store.layouts; area store.points; place index;);
     let spoil = Spoiler::after(BEGIN, answer);
@@ -83,7 +83,7 @@ pub fn step(inputs: &Inputs, store: &mut Store, n: u32, work: &mut Work) -> Answ
     let mut answer = call!(hitrovzen_step, &inputs.query;
         number inputs.states; number inputs.results;
         slice inputs.groups; slice inputs.numbers; slice inputs.edges; slice inputs.block_base; slice inputs.allow_base;
-        area store.record; number n;
+        slice inputs.steps; area store.record; number n;
         area work.counts; area work.map; area work.queue; area work.predecessors; area work.route;
         area store.lists; area store.visited; area store.layouts; area store.points; place index;);
     let spoil = Spoiler::after(STEP, answer);
@@ -114,7 +114,7 @@ pub fn judge(inputs: &Inputs, selection: &[u16], work: &mut Work) -> Judgement {
     let (mut index, mut verdict, mut ground) = (u32::PAST, u32::PAST, u32::PAST);
     let mut answer = call!(hitrovzen_judge, &inputs.query;
         slice inputs.groups; slice inputs.numbers; slice inputs.edges; slice inputs.block_base; slice inputs.allow_base;
-        slice selection;
+        slice inputs.steps; slice selection;
         area work.counts; area work.map; area work.queue; area work.predecessors; area work.route;
         place index; place verdict; place ground;);
     let spoil = Spoiler::after(JUDGE, answer);

@@ -2,11 +2,12 @@
 //! each answers; what `rules` accepts is run by the original too.
 
 use judge::generate::{Generator, Rng};
+use judge::order::ORIGINAL_STEPS;
 use judge::{Baselines, Search};
 
-use crate::both;
+use crate::both::{self, Difference};
 use crate::buildings::near;
-use crate::counts::{BEGIN, COUNTS_ABOVE_ONE, COVER, Counts, LIFT, PREPARE, READ, STEP};
+use crate::counts::{BEGIN, CALLS, COUNTS_ABOVE_ONE, COVER, Counts, JUDGE, LIFT, PREPARE, READ, STEP};
 use crate::covers::Change;
 use crate::searches::drawn;
 use crate::values::{
@@ -104,15 +105,19 @@ pub fn run(seed: u64, worlds: u64, counts: &mut Counts, progress: &dyn Fn(&str))
     Ok(())
 }
 
-fn altered(world: &World, rng: &mut Rng, counts: &mut Counts) -> Result<(), String> {
-    let faults = 1 + rng.below(2);
-    let drawn: Vec<(Fault, Rng)> = (0..faults)
+fn faults(count: u32, rng: &mut Rng) -> Vec<(Fault, Rng)> {
+    (0..count)
         .map(|_| {
             let fault = FAULTS[rng.below(FAULTS.len() as u32) as usize];
             (fault, Rng::new(rng.draw()))
         })
-        .collect();
-    counts.double_faults += u64::from(faults > 1);
+        .collect()
+}
+
+fn altered(world: &World, rng: &mut Rng, counts: &mut Counts) -> Result<(), String> {
+    let count = 1 + rng.below(2);
+    let drawn = faults(count, rng);
+    counts.double_faults += u64::from(count > 1);
     let before = counts.answers;
     if let Err(text) = with(world, &drawn, counts) {
         // One of two faults alone, where that differs too.
@@ -127,18 +132,14 @@ fn altered(world: &World, rng: &mut Rng, counts: &mut Counts) -> Result<(), Stri
 
 /// Calls a world with these faults.
 fn with(world: &World, faults: &[(Fault, Rng)], counts: &mut Counts) -> Result<(), String> {
-    let mut faulty = world.clone();
-    for ((_, alter), rng) in faults {
-        alter(&mut faulty, &mut rng.clone());
-    }
     let names: Vec<&str> = faults.iter().map(|((name, _), _)| *name).collect();
-    faulty.call(counts).map_err(|difference| format!("DIFFERENCE {difference}\naltered: {names:?}\n{faulty:?}"))
+    world.with(faults).call(counts).map(drop).map_err(|difference| format!("{difference}\naltered: {names:?}"))
 }
 
 impl World {
     /// A search in the middle of its course. Working areas and baseline are dirty, mostly also the store's unused entries, so that
     /// a refused call that writes is seen.
-    fn draw(generator: &mut Generator, rng: &mut Rng) -> Option<Self> {
+    pub fn draw(generator: &mut Generator, rng: &mut Rng) -> Option<Self> {
         let item = generator.item();
         let baselines = match &item.given {
             Some(given) => given.clone(),
@@ -146,7 +147,7 @@ impl World {
         };
         let mut search = Search::begin_on(&item.case, &baselines).ok()?;
         search.step([0, 1, 2, 3, 4, 6, 10, 500][rng.below(8) as usize]);
-        let inputs = Inputs::of(&item.case, &baselines.block, baselines.allow.as_deref());
+        let inputs = Inputs::of(&item.case, &baselines.block, baselines.allow.as_deref(), &ORIGINAL_STEPS);
         let held = search.snapshot();
         if held.layouts.is_empty() && rng.chance(2, 3) {
             return None;
@@ -175,26 +176,53 @@ impl World {
         })
     }
 
-    fn call(&self, counts: &mut Counts) -> Result<(), String> {
-        let mut lent = self.clone();
-        let number = both::prepare(&self.terrain, &self.inputs.query, self.mover, &mut lent.baseline, &mut lent.work)?;
-        counts.answer(PREPARE, number);
-        let mut lent = self.clone();
-        let begun = both::begin(&self.inputs, &mut lent.store, &mut lent.work)?;
-        counts.answer(BEGIN, begun.err().unwrap_or(0));
-        let mut lent = self.clone();
-        let stepped = both::step(&self.inputs, &mut lent.store, self.n, &mut lent.work, None)?;
-        counts.answer(STEP, stepped.err().unwrap_or(0));
-        let number = both::read(&self.inputs, &self.store, self.k)?;
-        counts.answer(READ, number);
-        let mut lent = self.clone();
-        counts.judged(both::judge(&self.inputs, &self.selection, &mut lent.work, None)?);
-        let building = Building { window: self.inputs.query.window, mover: self.mover, rect: self.building };
-        for (call, change) in [(COVER, Change::Cover), (LIFT, Change::Lift)] {
-            let number = both::alter(change, &building, &mut self.baseline.clone())?;
-            counts.answer(call, number);
+    /// The world with these faults.
+    fn with(&self, faults: &[(Fault, Rng)]) -> Self {
+        let mut faulty = self.clone();
+        for ((_, alter), rng) in faults {
+            alter(&mut faulty, &mut rng.clone());
         }
-        Ok(())
+        faulty
+    }
+
+    /// The world with so many drawn faults.
+    pub fn faulty(&self, count: u32, rng: &mut Rng) -> Self {
+        self.with(&faults(count, rng))
+    }
+
+    /// The world with another table of steps.
+    pub fn in_order(&self, steps: &[i32]) -> Self {
+        let mut world = self.clone();
+        world.inputs.steps = steps.to_vec();
+        world
+    }
+
+    /// Makes the seven calls, each on the world as it is. What they answered.
+    pub fn call(&self, counts: &mut Counts) -> Result<[u32; CALLS.len()], String> {
+        self.answers(counts).map_err(|difference| format!("DIFFERENCE {difference}\n{self:?}"))
+    }
+
+    fn answers(&self, counts: &mut Counts) -> Result<[u32; CALLS.len()], Difference> {
+        let mut answers = [0; CALLS.len()];
+        let steps = &self.inputs.steps;
+        let mut lent = self.clone();
+        answers[PREPARE] = both::prepare(&self.terrain, &self.inputs.query, self.mover, steps, &mut lent.baseline, &mut lent.work)?;
+        let mut lent = self.clone();
+        answers[BEGIN] = both::begin(&self.inputs, &mut lent.store, &mut lent.work)?.err().unwrap_or(0);
+        let mut lent = self.clone();
+        answers[STEP] = both::step(&self.inputs, &mut lent.store, self.n, &mut lent.work, None)?.err().unwrap_or(0);
+        answers[READ] = both::read(&self.inputs, &self.store, self.k)?;
+        let mut lent = self.clone();
+        let judged = both::judge(&self.inputs, &self.selection, &mut lent.work, None)?;
+        answers[JUDGE] = judged.err().unwrap_or(0);
+        let building = Building { window: self.inputs.query.window, mover: self.mover, rect: self.building };
+        answers[COVER] = both::alter(Change::Cover, &building, &mut self.baseline.clone())?;
+        answers[LIFT] = both::alter(Change::Lift, &building, &mut self.baseline.clone())?;
+        counts.judged(judged);
+        for call in [PREPARE, BEGIN, STEP, READ, COVER, LIFT] {
+            counts.answer(call, answers[call]);
+        }
+        Ok(answers)
     }
 
     fn places(&self) -> u32 {

@@ -1,8 +1,9 @@
 //! The refusals and verdicts of docs/RULES.md, 7 and 8, read from the rules alone: this module shares no code with the judge's `domain`.
-//! Routes and what a set blocks (7 to 9, and the verdicts' parts) are the original's; the ground left is flooded by the judge's `ground`.
-//! Cover and lift are read in `covers`.
+//! Routes and what a set blocks (7 to 9, and the verdicts' parts) are the original's; in another order of steps than the original's, 7 to 9
+//! of begin are those of the judge's `order`. The ground left is flooded by the judge's `ground`. Cover and lift are read in `covers`.
 
 use judge::ground::reached;
+use judge::order::{ORIGINAL_STEPS, Ordered};
 use judge::walls::search::{WallSearch, probe};
 use judge::{Mover, Rect};
 
@@ -30,6 +31,13 @@ fn overlap(a: Rect, b: Rect) -> bool {
     let top = a.top.max(b.top);
     let bottom = a.bottom.min(b.bottom);
     left < right && top < bottom
+}
+
+/// 19 unless the row is eight pairs, each of the eight steps once.
+pub fn table(steps: &[i32]) -> Turned {
+    let mut pairs: Vec<&[i32]> = steps.chunks(2).collect();
+    pairs.sort_unstable();
+    need(pairs == [[-1, -1], [-1, 0], [-1, 1], [0, -1], [0, 1], [1, -1], [1, 0], [1, 1]], 19)
 }
 
 /// The window's number of centres; 2 where it is empty, negative, beyond the map's pixels, or too large.
@@ -62,8 +70,9 @@ fn work_holds(query: &Query, centres: usize, work: &Work) -> bool {
         && [work.map.len(), work.queue.len(), work.predecessors.len(), work.route.len()].iter().min() >= Some(&centres)
 }
 
-/// Prepare's 1 to 6.
-pub fn prepare(terrain: &Terrain, query: &Query, mover: [u32; 4], baseline: &[u8], work: &Work) -> Turned {
+/// Prepare's 19, then 1 to 6.
+pub fn prepare(terrain: &Terrain, query: &Query, mover: [u32; 4], steps: &[i32], baseline: &[u8], work: &Work) -> Turned {
+    table(steps)?;
     let (across, down) = (terrain.across as usize, terrain.down as usize);
     need((1..=1_024).contains(&across) && (1..=1_024).contains(&down), 1)?;
     need(terrain.cells.len() == across * down, 1)?;
@@ -145,10 +154,13 @@ fn after_routes(inputs: &Inputs) -> Turned {
     Ok(())
 }
 
-/// 7 to 9 over both baselines, by the original's looks.
+/// 7 to 9 over both baselines: the original's looks in its own order of steps, those of the judge's `order` in another.
 fn routes(inputs: &Inputs) -> Turned {
     let case = judge::Case { placements: Vec::new(), ..Inputs { numbers: Vec::new(), edges: Vec::new(), ..inputs.clone() }.case() };
     let baselines = inputs.baselines();
+    if inputs.steps != ORIGINAL_STEPS {
+        return Ordered::on(&case, &baselines, &inputs.steps).ends_joined().or_else(no);
+    }
     for baseline in [Some(&baselines.block), baselines.allow.as_ref()].into_iter().flatten() {
         probe::ends_joined(&case, baseline).or_else(no)?;
     }
@@ -156,17 +168,20 @@ fn routes(inputs: &Inputs) -> Turned {
 }
 
 pub fn begin(inputs: &Inputs, work: &Work, store: &Store) -> Turned {
+    table(&inputs.steps)?;
     before_routes(inputs, Taken { work: Some(work), store: Some(store) })?;
     routes(inputs)?;
     after_routes(inputs)
 }
 
 pub fn step(inputs: &Inputs, work: &Work, store: &Store) -> Turned {
+    table(&inputs.steps)?;
     before_routes(inputs, Taken { work: Some(work), store: Some(store) })?;
     after_routes(inputs)?;
     need(record(inputs, store), 16)
 }
 
+/// Reading takes no table.
 pub fn read(inputs: &Inputs, store: &Store, k: u32) -> Turned {
     before_routes(inputs, Taken { work: None, store: Some(store) })?;
     after_routes(inputs)?;
@@ -175,6 +190,7 @@ pub fn read(inputs: &Inputs, store: &Store, k: u32) -> Turned {
 }
 
 pub fn judge(inputs: &Inputs, work: &Work, selection: &[u16]) -> Turned {
+    table(&inputs.steps)?;
     before_routes(inputs, Taken { work: Some(work), store: None })?;
     after_routes(inputs)?;
     need(selection.len() <= 6 && ascends(selection, inputs.places()), 17)

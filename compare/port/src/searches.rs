@@ -3,17 +3,17 @@
 
 use judge::generate::Rng;
 use judge::list::Item;
-use judge::{Mover, Search, Snapshot};
+use judge::{Mover, Snapshot};
 
-use crate::both::{self, Difference};
+use crate::both::{self, Difference, Held};
 use crate::counts::{BEGIN, Counts, PREPARE, READ, STEP};
 use crate::values::{Inputs, Query, Store, Terrain, Work, clean, soil};
 
-/// Runs an item; what is drawn comes from `seed`. What the search holds at last, or nothing where prepare refuses.
-pub fn run(item: &Item, seed: u64, counts: &mut Counts) -> Result<Option<Snapshot>, Difference> {
+/// Runs an item in an order of steps; what is drawn comes from `seed`. What the search holds at last, or nothing where prepare refuses.
+pub fn run(item: &Item, steps: &[i32], seed: u64, counts: &mut Counts) -> Result<Option<Snapshot>, Difference> {
     let mut rng = Rng::new(seed);
     let mut work = Work::clean(&Query::of(&item.case));
-    let Some(inputs) = inputs(item, &mut work, &mut rng, counts)? else {
+    let Some(inputs) = inputs(item, steps, &mut work, &mut rng, counts)? else {
         return Ok(None);
     };
     let searched = search(item, &inputs, &mut work, &mut rng, counts)?;
@@ -21,28 +21,27 @@ pub fn run(item: &Item, seed: u64, counts: &mut Counts) -> Result<Option<Snapsho
 }
 
 /// An item's inputs over the baselines given, or over those that both sides make; nothing where both refuse to.
-pub fn inputs(item: &Item, work: &mut Work, rng: &mut Rng, counts: &mut Counts) -> Result<Option<Inputs>, Difference> {
+pub fn inputs(item: &Item, steps: &[i32], work: &mut Work, rng: &mut Rng, counts: &mut Counts) -> Result<Option<Inputs>, Difference> {
     if let Some(given) = &item.given {
-        return Ok(Some(Inputs::of(&item.case, &given.block, given.allow.as_deref())));
+        return Ok(Some(Inputs::of(&item.case, &given.block, given.allow.as_deref(), steps)));
     }
-    let query = Query::of(&item.case);
-    let block = prepared(item, Mover::Block, &query, work, rng, counts)?;
+    let block = prepared(item, Mover::Block, steps, work, rng, counts)?;
     let allow = match item.case.allow {
-        Some(_) => Some(prepared(item, Mover::Allow, &query, work, rng, counts)?),
+        Some(_) => Some(prepared(item, Mover::Allow, steps, work, rng, counts)?),
         None => None,
     };
     let (Some(block), Some(allow)) = (block, allow.map_or(Some(None), |made| made.map(Some))) else {
         counts.refused += 1;
         return Ok(None);
     };
-    Ok(Some(Inputs::of(&item.case, &block, allow.as_deref())))
+    Ok(Some(Inputs::of(&item.case, &block, allow.as_deref(), steps)))
 }
 
 /// The baseline that both sides make, or nothing where both refuse.
 fn prepared(
     item: &Item,
     mover: Mover,
-    query: &Query,
+    steps: &[i32],
     work: &mut Work,
     rng: &mut Rng,
     counts: &mut Counts,
@@ -52,7 +51,7 @@ fn prepared(
     let mut baseline = clean(item.case.centres());
     soil(&mut baseline, item.case.centres(), rng);
     dirty(work, rng, counts);
-    let number = both::prepare(&Terrain::of(&item.case), query, mover, &mut baseline, work)?;
+    let number = both::prepare(&Terrain::of(&item.case), &Query::of(&item.case), mover, steps, &mut baseline, work)?;
     counts.answer(PREPARE, number);
     let marked = baseline[..item.case.centres()].iter().map(|&byte| byte == 1).collect();
     Ok((number == 0).then_some(marked))
@@ -80,7 +79,7 @@ pub fn search(
         Some(held) => {
             store.lay(held, needs);
             counts.set += 1;
-            both::original(inputs, &store)?
+            both::set(inputs, &store)?
         }
         None => {
             dirty(work, rng, counts);
@@ -142,10 +141,10 @@ fn selections(inputs: &Inputs, last: &Snapshot, rng: &mut Rng) -> Vec<Vec<u16>> 
     selections
 }
 
-/// Judges them; `search` is the original's, made from the inputs where there is none at hand.
+/// Judges them; `search` is what the port's is held to, made from the inputs where there is none at hand.
 pub fn judge(
     inputs: &Inputs,
-    search: Option<&Search>,
+    search: Option<&Held>,
     selections: Vec<Vec<u16>>,
     work: &mut Work,
     rng: &mut Rng,

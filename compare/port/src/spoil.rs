@@ -3,6 +3,7 @@
 use std::cell::Cell;
 
 use judge::generate::Generator;
+use judge::order::ORIGINAL_STEPS;
 
 use crate::buildings;
 use crate::counts::{BEGIN, CALLS, COVER, Counts, JUDGE, LIFT, PREPARE, READ, STEP};
@@ -129,7 +130,7 @@ fn found(seed: u64, value: Value) -> bool {
     if value.call == COVER || value.call == LIFT {
         return buildings::calls(seed, 200, &mut Counts::default()).is_err();
     }
-    (0..200).any(|number| searches::run(&generator.item(), seed ^ number, &mut Counts::default()).is_err())
+    (0..200).any(|number| searches::run(&generator.item(), &ORIGINAL_STEPS, seed ^ number, &mut Counts::default()).is_err())
 }
 
 #[cfg(test)]
@@ -151,12 +152,12 @@ mod tests {
             })
             .expect("an endless row");
         SPOILT.set(Some(Value { call: STEP, refused: false, what: "record" }));
-        let difference = searches::run(&item, 1, &mut Counts::default()).expect_err("a spoilt record");
-        let differs = |item: &Item| searches::run(item, 1, &mut Counts::default()).err();
+        let difference = searches::run(&item, &ORIGINAL_STEPS, 1, &mut Counts::default()).expect_err("a spoilt record");
+        let differs = |item: &Item| searches::run(item, &ORIGINAL_STEPS, 1, &mut Counts::default()).err();
         let (smallest, difference) = shrink(&item, difference, &differs);
         SPOILT.set(None);
         assert!(difference.contains("record[0]"), "{difference}");
         assert_eq!((smallest.case.placements.len(), smallest.portions.len()), (0, 1));
-        assert!(searches::run(&smallest, 1, &mut Counts::default()).is_ok());
+        assert!(searches::run(&smallest, &ORIGINAL_STEPS, 1, &mut Counts::default()).is_ok());
     }
 }

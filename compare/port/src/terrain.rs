@@ -1,6 +1,7 @@
 //! Prepare on random terrain and obstacles: maps of up to 14 cells each way, and a few of 160 with 4,096 obstacles.
 
 use judge::generate::Rng;
+use judge::order::ORIGINAL_STEPS;
 
 use crate::both;
 use crate::counts::{Counts, PREPARE};
@@ -79,7 +80,7 @@ fn one(terrain: &Terrain, size: i32, rng: &mut Rng, counts: &mut Counts) -> Resu
         work.soil(rng);
         counts.dirty_calls += 1;
     }
-    let number = both::prepare(terrain, &query, mover, &mut baseline, &mut work)
+    let number = both::prepare(terrain, &query, mover, &ORIGINAL_STEPS, &mut baseline, &mut work)
         .map_err(|difference| format!("DIFFERENCE {difference}\n{terrain:?}\n{query:?}"))?;
     counts.answer(PREPARE, number);
     Ok(())

@@ -90,6 +90,8 @@ pub struct Inputs {
     pub edges: Vec<i32>,
     pub block_base: Vec<u8>,
     pub allow_base: Vec<u8>,
+    /// The order of steps.
+    pub steps: Vec<i32>,
 }
 
 /// The lengths that the areas need for accepted inputs.
@@ -162,8 +164,8 @@ impl Query {
 }
 
 impl Inputs {
-    /// The case's inputs over baselines made elsewhere, lent longer than needed.
-    pub fn of(case: &Case, block: &[bool], allow: Option<&[bool]>) -> Self {
+    /// The case's inputs over baselines made elsewhere, lent longer than needed, and an order of steps.
+    pub fn of(case: &Case, block: &[bool], allow: Option<&[bool]>, steps: &[i32]) -> Self {
         let bytes = |baseline: &[bool]| {
             let mut area = clean(baseline.len());
             for (byte, &off) in area.iter_mut().zip(baseline) {
@@ -181,6 +183,7 @@ impl Inputs {
             edges: case.placements.iter().flat_map(|place| [place.footprint, place.collision]).flat_map(edges).collect(),
             block_base: bytes(block),
             allow_base: allow.map_or_else(|| vec![u8::PAST; 2], bytes),
+            steps: steps.to_vec(),
         }
     }
 

@@ -22,6 +22,7 @@ use Rattle.base_model.specs.declared.Refusal.the-variants.{
   RectangleEmpty,
   RecordInvalid,
   SelectionInvalid,
+  StepsInvalid,
   CountOutOfRange,
 }
 use Rattle.base_model.specs.declared.Answer.the-variants.{Done, Refused}
@@ -48,6 +49,7 @@ refusals =
     ∷ (RectangleEmpty, 15, [])
     ∷ (RecordInvalid, 16, [])
     ∷ (SelectionInvalid, 17, [])
+    ∷ (StepsInvalid, 19, [])
     ∷ (CountOutOfRange, 20, [])
     ∷ []
 

@@ -23,6 +23,7 @@ use Rattle.base_model.specs.declared.Refusal.the-variants.{
   RectangleEmpty,
   RecordInvalid,
   SelectionInvalid,
+  StepsInvalid,
   CountOutOfRange,
 }
 use Rattle.base_model.specs.declared.Answer.{Answer}
@@ -66,6 +67,7 @@ saidOf (PlacementInvalid i) = record { number = 15; values = i ∷ [] }
 saidOf RectangleEmpty = refusal 15
 saidOf RecordInvalid = refusal 16
 saidOf SelectionInvalid = refusal 17
+saidOf StepsInvalid = refusal 19
 saidOf CountOutOfRange = refusal 20
 
 -- none where the call is accepted

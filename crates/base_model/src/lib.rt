@@ -150,6 +150,7 @@ pub enum Refusal {
     RectangleEmpty,
     RecordInvalid,
     SelectionInvalid,
+    StepsInvalid,
     CountOutOfRange,
 }
 
@@ -218,6 +219,7 @@ pub fn refusal_number(refusal: Refusal) -> u32
         Refusal::RectangleEmpty => 15,
         Refusal::RecordInvalid => 16,
         Refusal::SelectionInvalid => 17,
+        Refusal::StepsInvalid => 19,
         Refusal::CountOutOfRange => 20,
     }
 }

@@ -4,19 +4,21 @@ use base_model::Limits;
 use base_model::Query;
 use base_model::RUNNING;
 use base_model::Record;
+use base_model::Refusal;
 use base_model::Reply;
 use base_model::fresh_record;
 use base_model::no_record;
 use call_lengths::StoreLengths;
 use call_lengths::WorkLengths;
+use route_table::table_fits;
 ghost use mathlib.Core.Path.{_≡_};
 ghost use mathlib.Core.Option.{none};
 ghost use Rattle.base_model.specs.Answers.{first, replyOf};
-ghost use Rattle.rule_routes.specs.Edges.{eightSteps};
+ghost use Rattle.rule_routes.specs.Edges.{stepsOf};
 ghost use Rattle.rule_layouts.specs.Flat.{inputsOf};
 ghost use Rattle.rule_search.specs.Frames.{begun};
 ghost use Rattle.rule_calls.specs.Areas.{workIn, storeIn, recordOf};
-ghost use Rattle.rule_calls.specs.Calls.{beginChecks, beginCall};
+ghost use Rattle.rule_calls.specs.Calls.{beginChecks, beginOver, beginCall};
 
 // The record of a search that has begun: running, with the empty set pending.
 fn begun_record(places: u32) -> Record
@@ -34,6 +36,7 @@ fn begin_checked(
     edges: &[i32],
     block_base: &[u8],
     allow_base: &[u8],
+    steps: &[i32],
     counts: &mut [i32],
     map: &mut [u8],
     queue: &mut [u32],
@@ -48,7 +51,7 @@ fn begin_checked(
         (workIn (now counts) (now map) (now queue) (now predecessors) (now route))
         (storeIn (now lists) (now visited) (now layouts) (now points))) ≡ none ⌝ }
     ensures { λ r. ⌜
-        beginCall eightSteps
+        beginOver (stepsOf (now (steps .entry)))
         (inputsOf query (now (groups .entry)) (now (numbers .entry)) (now (edges .entry))
         (now («block_base» .entry)) (now («allow_base» .entry)))
         limits
@@ -70,6 +73,7 @@ fn begin_checked(
         edges,
         block_base,
         allow_base,
+        steps,
         queue,
         predecessors,
         route,
@@ -88,8 +92,8 @@ fn begin_checked(
     }
 }
 
-// Begins a search: its record, and its areas zero up to their lengths. Refuses 10, 11, 12, 2, 3, 4, 6, then 7, 8, 9 for the blocked
-// mover and for the allowed, then 14, 15. The first seven write nothing; the others leave the working areas zero up to their lengths.
+// Begins a search: its record, and its areas zero up to their lengths. Refuses 19, 10, 11, 12, 2, 3, 4, 6, then 7, 8, 9 for the blocked
+// mover and for the allowed, then 14, 15. The first eight write nothing; the others leave the working areas zero up to their lengths.
 pub fn begin(
     query: Query,
     limits: Limits,
@@ -98,6 +102,7 @@ pub fn begin(
     edges: &[i32],
     block_base: &[u8],
     allow_base: &[u8],
+    steps: &[i32],
     counts: &mut [i32],
     map: &mut [u8],
     queue: &mut [u32],
@@ -109,7 +114,7 @@ pub fn begin(
     points: &mut [u32],
 ) -> Reply
     ensures { λ r. ⌜
-        beginCall eightSteps
+        beginCall (now (steps .entry))
         (inputsOf query (now (groups .entry)) (now (numbers .entry)) (now (edges .entry))
         (now («block_base» .entry)) (now («allow_base» .entry)))
         limits
@@ -123,6 +128,12 @@ pub fn begin(
         }
         ⌝ }
 {
+    if !table_fits(steps) {
+        return Reply {
+            answer: Answer::Refused(Refusal::StepsInvalid),
+            rec: no_record(),
+        };
+    }
     let places = call_checks::place_count(numbers.len(), edges.len());
     let work = WorkLengths {
         counts: counts.len(),
@@ -161,6 +172,7 @@ pub fn begin(
         edges,
         block_base,
         allow_base,
+        steps,
         counts,
         map,
         queue,

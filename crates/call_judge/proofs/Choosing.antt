@@ -15,6 +15,7 @@ use Rattle.base_model.specs.declared.Allow.{Allow}
 use Rattle.base_model.specs.declared.Allow.the-variants.{Nobody, Bounded}
 use Rattle.base_model.specs.declared.Query.{Query}
 use Rattle.ground_rects.specs.Windows.{centres}
+use Rattle.rule_routes.specs.Edges.{stepsOf, eachOnce}
 use Rattle.rule_layouts.specs.Inputs.{Inputs}
 use Rattle.rule_layouts.specs.Flat.{placementsOf, inputsOf}
 use Rattle.rule_calls.specs.Areas.{Work, workFits}
@@ -100,10 +101,11 @@ unfolding allowSmall allowLong AllowReady
 allow-ready w Nobody base e f = tt
 allow-ready w (Bounded m) base e f = (e, leb-true (centres w) (length base) f)
 
-pub chosen : (q : Query) (groups numbers : List ℕ) (edges : List ℤ) (blockBase allowBase s : List ℕ) (w : Work)
-    → first (judgeChecks (inputsOf q groups numbers edges blockBase allowBase) s w) ≡ none → Chosen q groups numbers edges blockBase allowBase s
+pub chosen : (q : Query) (groups numbers : List ℕ) (edges : List ℤ) (blockBase allowBase : List ℕ) (steps : List ℤ) (s : List ℕ) (w : Work)
+    → first (judgeChecks (inputsOf q groups numbers edges blockBase allowBase) s w) ≡ none → eachOnce (stepsOf steps) ≡ true
+    → Chosen q groups numbers edges blockBase allowBase steps s
 unfolding inputsOf
-chosen q groups numbers edges blockBase allowBase s w e =
+chosen q groups numbers edges blockBase allowBase steps s w e once =
     let i = inputsOf q groups numbers edges blockBase allowBase in
     let p = passed i s w e in
     let r = places-whole i numbers edges refl (p .placed) in
@@ -118,6 +120,7 @@ chosen q groups numbers edges blockBase allowBase s w e =
       allowed = allow-ready (q .window) (q .allow) allowBase (p .framing .allowedSmall) (p .baselines .allow);
       rows = subst (λ (m : ℕ). Rowed m groups numbers edges s) n
           (record { fours = r .fours; eights = r .eights; few = r .few; grouped = r .grouped; named = k .named });
+      once = once;
       rising = k .rising;
     }
 

@@ -9,15 +9,14 @@ use Rattle.base_model.specs.Answers.{Said, first}
 use Rattle.base_model.specs.declared.Rect.{Rect}
 use Rattle.base_model.specs.declared.Query.{Query}
 use Rattle.ground_rects.specs.Windows.{width, height, centres, centreAt}
-use Rattle.rule_routes.specs.Edges.{Step, eightSteps, stepsOf, eachOnce, windowEdges}
+use Rattle.rule_routes.specs.Edges.{Step, windowEdges}
 use Rattle.rule_routes.specs.Routes.{reachCount}
-use Rattle.rule_routes.proofs.StepLaws.{eight-once}
 use Rattle.rule_layouts.specs.Boards.{Board, leavesOpen}
 use Rattle.rule_layouts.specs.Inputs.{Inputs, boardOf}
 use Rattle.rule_layouts.specs.Flat.{inputsOf}
 use Rattle.rule_layouts.specs.Judge.{verdict, groundLeft}
 use Rattle.rule_calls.specs.Areas.{Work, workIn, cleared}
-use Rattle.rule_calls.specs.Calls.{Judgement, refuses, judges, judgeChecks, judgeCall}
+use Rattle.rule_calls.specs.Calls.{Judgement, refuses, judges, judgeChecks, judgeOver}
 use Rattle.rule_calls.proofs.Back.{laid-clear}
 use Rattle.set_blocked.specs.Blocked.{moverIn}
 use Rattle.set_board.specs.Ready.{Ready, Blank}
@@ -29,19 +28,19 @@ use Rattle.call_judge.specs.Chosen.{Chosen, Clean, FourSame}
 
 -- ---- the answer
 module _ (steps : List Step) (i : Inputs) (s : List ℕ) (w : Work) where
-  pub judge-refused : {e : Said} → first (judgeChecks i s w) ≡ some e → judgeCall steps i s w ≡ record { answer = refuses e; work = w }
-  unfolding judgeCall
-  judge-refused h = rw (judgeCall, h)
+  pub judge-refused : {e : Said} → first (judgeChecks i s w) ≡ some e → judgeOver steps i s w ≡ record { answer = refuses e; work = w }
+  unfolding judgeOver
+  judge-refused h = rw (judgeOver, h)
 
   pub judge-accepted : first (judgeChecks i s w) ≡ none → (j : Judgement) → j ≡ judges (verdict (boardOf steps i) s) (groundLeft (boardOf steps i) s)
-      → (w′ : Work) → w′ ≡ cleared (i .query .window) w → judgeCall steps i s w ≡ record { answer = j; work = w′ }
-  unfolding judgeCall
-  judge-accepted h j e w′ f = rw (judgeCall, h, e, f)
+      → (w′ : Work) → w′ ≡ cleared (i .query .window) w → judgeOver steps i s w ≡ record { answer = j; work = w′ }
+  unfolding judgeOver
+  judge-accepted h j e w′ f = rw (judgeOver, h, e, f)
 
 -- ---- what the verdict and the count ask
-pub ready : {q : Query} {groups numbers : List ℕ} {edges : List ℤ} {blockBase allowBase set : List ℕ} → Chosen q groups numbers edges blockBase allowBase set
-    → (steps : List ℤ) → stepsOf steps ≡ eightSteps → Ready q groups numbers edges blockBase allowBase steps set (length numbers / 4)
-ready c steps e = record {
+pub ready : {q : Query} {groups numbers : List ℕ} {edges : List ℤ} {blockBase allowBase : List ℕ} {steps : List ℤ} {set : List ℕ}
+    → Chosen q groups numbers edges blockBase allowBase steps set → Ready q groups numbers edges blockBase allowBase steps set (length numbers / 4)
+ready c = record {
   fits = c .fits;
   startIn = c .startIn;
   endIn = c .endIn;
@@ -49,12 +48,12 @@ ready c steps e = record {
   bytes = c .bytes;
   allowed = c .allowed;
   rows = c .rows;
-  once = ap eachOnce e ∙ eight-once;
+  once = c .once;
   rising = c .rising;
 }
 
-pub counted : {q : Query} {groups numbers : List ℕ} {edges : List ℤ} {blockBase allowBase set map queue predecessors route : List ℕ}
-    → Chosen q groups numbers edges blockBase allowBase set → Blank (centres (q .window)) map queue predecessors route
+pub counted : {q : Query} {groups numbers : List ℕ} {edges : List ℤ} {blockBase allowBase : List ℕ} {steps : List ℤ} {set map queue predecessors route : List ℕ}
+    → Chosen q groups numbers edges blockBase allowBase steps set → Blank (centres (q .window)) map queue predecessors route
     → GroundLent q edges blockBase set map queue predecessors
 counted c b = record {
   fits = c .fits;

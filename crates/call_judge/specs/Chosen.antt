@@ -1,4 +1,4 @@
--- A selection that passes the checks, and working areas that are cleared.
+-- A selection and a table of steps that pass the checks, and working areas that are cleared.
 use Prim.Native.Nat.{ℕ, _/_, _≤_}
 use mathlib.Core.Path.{_≡_}
 use mathlib.Core.Bool.{true}
@@ -9,10 +9,11 @@ use Rattle.base_laws.specs.Lists.{ascends}
 use Rattle.base_model.specs.declared.Query.{Query}
 use Rattle.ground_rects.specs.Rects.{small}
 use Rattle.ground_rects.specs.Windows.{centres, windowFits, inWindow}
+use Rattle.rule_routes.specs.Edges.{stepsOf, eachOnce}
 use Rattle.set_extend.specs.Join.{Rowed}
 use Rattle.set_blocked.specs.Blocked.{AllowReady}
 
-pub record Chosen (q : Query) (groups numbers : List ℕ) (edges : List ℤ) (blockBase allowBase set : List ℕ) : Type 0 where
+pub record Chosen (q : Query) (groups numbers : List ℕ) (edges : List ℤ) (blockBase allowBase : List ℕ) (steps : List ℤ) (set : List ℕ) : Type 0 where
   pub fits : windowFits 8192 8192 (q .window) ≡ true
   pub startIn : inWindow (q .window) (q .start) ≡ true
   pub endIn : inWindow (q .window) (q .end) ≡ true
@@ -20,6 +21,7 @@ pub record Chosen (q : Query) (groups numbers : List ℕ) (edges : List ℤ) (bl
   pub bytes : centres (q .window) ≤ length blockBase
   pub allowed : AllowReady (q .window) (q .allow) allowBase
   pub rows : Rowed (length numbers / 4) groups numbers edges set
+  pub once : eachOnce (stepsOf steps) ≡ true
   pub rising : ascends set ≡ true
 
 -- the first c entries of each area are zero

@@ -6,17 +6,19 @@ use base_model::Refusal;
 use base_model::SLOTS;
 use call_lengths::WorkLengths;
 use call_rows::members_fit;
+use route_table::table_fits;
 use set_ground::ground_left;
 ghost use mathlib.Core.Path.{_≡_};
+ghost use mathlib.Core.Bool.{true};
 ghost use mathlib.Core.Option.{none};
 ghost use Rattle.base_model.specs.Answers.{first, replyOf};
 ghost use Rattle.ground_rects.specs.Windows.{centres};
-ghost use Rattle.rule_routes.specs.Edges.{eightSteps};
+ghost use Rattle.rule_routes.specs.Edges.{stepsOf, eachOnce};
 ghost use Rattle.rule_layouts.specs.Inputs.{boardOf};
 ghost use Rattle.rule_layouts.specs.Flat.{inputsOf};
 ghost use Rattle.rule_layouts.specs.Judge.{verdict, groundLeft};
 ghost use Rattle.rule_calls.specs.Areas.{Work, workIn};
-ghost use Rattle.rule_calls.specs.Calls.{judges, judgementOf, selectionFits, judgeChecks, judgeCall};
+ghost use Rattle.rule_calls.specs.Calls.{judges, judgementOf, selectionFits, judgeChecks, judgeOver, judgeCall};
 ghost use Rattle.call_lengths.specs.Lengths.{WorkHas};
 ghost use Rattle.set_board.specs.Ready.{Blank};
 ghost use Rattle.call_judge.specs.Chosen.{Chosen, Clean, FourSame};
@@ -80,27 +82,29 @@ fn judged(
     edges: &[i32],
     block_base: &[u8],
     allow_base: &[u8],
+    steps: &[i32],
     selection: &[u16],
     map: &mut [u8],
     queue: &mut [u32],
     predecessors: &mut [u32],
     route: &mut [u32],
 ) -> Judged
-    requires { ⌜ Chosen query (now groups) (now numbers) (now edges) (now «block_base») (now «allow_base») (now selection) ⌝ }
+    requires { ⌜ Chosen query (now groups) (now numbers) (now edges) (now «block_base») (now «allow_base») (now steps) (now selection) ⌝ }
     requires { ⌜ Blank (centres (query .window)) (now map) (now queue) (now predecessors) (now route) ⌝ }
     ensures { λ r. ⌜ judgementOf r ≡ judges
         (verdict
-        (boardOf eightSteps (inputsOf query (now (groups .entry)) (now (numbers .entry)) (now (edges .entry)) (now («block_base» .entry))
+        (boardOf (stepsOf (now (steps .entry)))
+        (inputsOf query (now (groups .entry)) (now (numbers .entry)) (now (edges .entry)) (now («block_base» .entry))
         (now («allow_base» .entry))))
         (now (selection .entry)))
         (groundLeft
-        (boardOf eightSteps (inputsOf query (now (groups .entry)) (now (numbers .entry)) (now (edges .entry)) (now («block_base» .entry))
+        (boardOf (stepsOf (now (steps .entry)))
+        (inputsOf query (now (groups .entry)) (now (numbers .entry)) (now (edges .entry)) (now («block_base» .entry))
         (now («allow_base» .entry))))
         (now (selection .entry))) ⌝ }
     ensures { λ r. ⌜ Blank (centres (query .window)) (now (map .exit)) (now (queue .exit)) (now (predecessors .exit))
         (now (route .exit)) ⌝ }
 {
-    let steps = route_find::original_steps();
     let v = set_verdict::verdict(
         query,
         groups,
@@ -108,7 +112,7 @@ fn judged(
         edges,
         block_base,
         allow_base,
-        &steps,
+        steps,
         selection,
         map,
         queue,
@@ -119,7 +123,6 @@ fn judged(
         query,
         edges,
         block_base,
-        &steps,
         selection,
         map,
         queue,
@@ -136,21 +139,24 @@ fn judged_in(
     edges: &[i32],
     block_base: &[u8],
     allow_base: &[u8],
+    steps: &[i32],
     selection: &[u16],
     map: &mut [u8],
     queue: &mut [u32],
     predecessors: &mut [u32],
     route: &mut [u32],
 ) -> Judged
-    requires { ⌜ Chosen query (now groups) (now numbers) (now edges) (now «block_base») (now «allow_base») (now selection) ⌝ }
+    requires { ⌜ Chosen query (now groups) (now numbers) (now edges) (now «block_base») (now «allow_base») (now steps) (now selection) ⌝ }
     requires { ⌜ Clean (centres (query .window)) (now map) (now queue) (now predecessors) (now route) ⌝ }
     ensures { λ r. ⌜ judgementOf r ≡ judges
         (verdict
-        (boardOf eightSteps (inputsOf query (now (groups .entry)) (now (numbers .entry)) (now (edges .entry)) (now («block_base» .entry))
+        (boardOf (stepsOf (now (steps .entry)))
+        (inputsOf query (now (groups .entry)) (now (numbers .entry)) (now (edges .entry)) (now («block_base» .entry))
         (now («allow_base» .entry))))
         (now (selection .entry)))
         (groundLeft
-        (boardOf eightSteps (inputsOf query (now (groups .entry)) (now (numbers .entry)) (now (edges .entry)) (now («block_base» .entry))
+        (boardOf (stepsOf (now (steps .entry)))
+        (inputsOf query (now (groups .entry)) (now (numbers .entry)) (now (edges .entry)) (now («block_base» .entry))
         (now («allow_base» .entry))))
         (now (selection .entry))) ⌝ }
     ensures { λ r. ⌜ FourSame (now (map .entry)) (now (queue .entry)) (now (predecessors .entry)) (now (route .entry)) (now (map .exit))
@@ -164,6 +170,7 @@ fn judged_in(
         edges,
         block_base,
         allow_base,
+        steps,
         selection,
         &mut map[..c],
         &mut queue[..c],
@@ -180,6 +187,7 @@ fn judge_checked(
     edges: &[i32],
     block_base: &[u8],
     allow_base: &[u8],
+    steps: &[i32],
     selection: &[u16],
     counts: &mut [i32],
     map: &mut [u8],
@@ -189,8 +197,9 @@ fn judge_checked(
 ) -> Judged
     requires { ⌜ first (judgeChecks (inputsOf query (now groups) (now numbers) (now edges) (now «block_base») (now «allow_base»))
         (now selection) (workIn (now counts) (now map) (now queue) (now predecessors) (now route))) ≡ none ⌝ }
+    requires { ⌜ eachOnce (stepsOf (now steps)) ≡ true ⌝ }
     ensures { λ r. ⌜
-        judgeCall eightSteps
+        judgeOver (stepsOf (now (steps .entry)))
         (inputsOf query (now (groups .entry)) (now (numbers .entry)) (now (edges .entry))
         (now («block_base» .entry)) (now («allow_base» .entry)))
         (now (selection .entry))
@@ -210,6 +219,7 @@ fn judge_checked(
         edges,
         block_base,
         allow_base,
+        steps,
         selection,
         map,
         queue,
@@ -219,7 +229,7 @@ fn judge_checked(
 }
 
 // Judges a selection: the first verdict that holds, and the number of centres to which the blocked mover has a route from the start.
-// Refuses 10, 2, 3, 4, 6, 14, 15 and 17, and then writes nothing. Accepted, it leaves the working areas zero up to their lengths.
+// Refuses 19, 10, 2, 3, 4, 6, 14, 15 and 17, and then writes nothing. Accepted, it leaves the working areas zero up to their lengths.
 pub fn judge(
     query: Query,
     groups: &[u32],
@@ -227,6 +237,7 @@ pub fn judge(
     edges: &[i32],
     block_base: &[u8],
     allow_base: &[u8],
+    steps: &[i32],
     selection: &[u16],
     counts: &mut [i32],
     map: &mut [u8],
@@ -235,7 +246,7 @@ pub fn judge(
     route: &mut [u32],
 ) -> Judged
     ensures { λ r. ⌜
-        judgeCall eightSteps
+        judgeCall (now (steps .entry))
         (inputsOf query (now (groups .entry)) (now (numbers .entry)) (now (edges .entry))
         (now («block_base» .entry)) (now («allow_base» .entry)))
         (now (selection .entry))
@@ -246,6 +257,9 @@ pub fn judge(
         }
         ⌝ }
 {
+    if !table_fits(steps) {
+        return Judged::Refused(Refusal::StepsInvalid);
+    }
     let room = WorkLengths {
         counts: counts.len(),
         map: map.len(),
@@ -273,6 +287,7 @@ pub fn judge(
         edges,
         block_base,
         allow_base,
+        steps,
         selection,
         counts,
         map,

@@ -7,7 +7,7 @@ ghost use mathlib.Core.Bool.{true};
 ghost use mathlib.Core.List.{_++_};
 ghost use lib.ListN.{length};
 ghost use Rattle.base_model.specs.Answers.{first, replyOf};
-ghost use Rattle.rule_routes.specs.Edges.{stepsOf, eightSteps};
+ghost use Rattle.rule_routes.specs.Edges.{stepsOf};
 ghost use Rattle.rule_layouts.specs.Flat.{inputsOf};
 ghost use Rattle.rule_layouts.specs.Inputs.{Inputs, boardOf};
 ghost use Rattle.rule_calls.specs.Checks.{placeChecks};
@@ -52,23 +52,23 @@ fn check_routes(
     query: Query,
     block_base: &[u8],
     allow_base: &[u8],
+    steps: &[i32],
     queue: &mut [u32],
     predecessors: &mut [u32],
     route: &mut [u32],
 ) -> Answer
     requires { ⌜ Movable query (now «block_base») (now «allow_base») (now queue) (now predecessors) (now route) ⌝ }
     ensures { λ r. ⌜ ((i : Inputs) → Bases i query (now («block_base» .entry)) (now («allow_base» .entry))
-        → replyOf r ≡ first (bothRoutes (boardOf eightSteps i))) ⌝ }
+        → replyOf r ≡ first (bothRoutes (boardOf (stepsOf (now (steps .entry))) i))) ⌝ }
     ensures { λ r. ⌜ ThreeSame (now (queue .entry)) (now (predecessors .entry)) (now (route .entry))
         (now (queue .exit)) (now (predecessors .exit)) (now (route .exit)) ⌝ }
 {
-    let steps = route_find::original_steps();
     let blocked = call_passage::check_passage(
         block_base,
         query.window,
         query.start,
         query.end,
-        &steps,
+        steps,
         queue,
         predecessors,
         route,
@@ -76,7 +76,7 @@ fn check_routes(
     if let Answer::Refused(r) = blocked {
         return Answer::Refused(r);
     }
-    check_allowed(query, allow_base, &steps, queue, predecessors, route)
+    check_allowed(query, allow_base, steps, queue, predecessors, route)
 }
 
 // The first refusal of two answers.
@@ -97,20 +97,30 @@ pub fn late_checks(
     edges: &[i32],
     block_base: &[u8],
     allow_base: &[u8],
+    steps: &[i32],
     queue: &mut [u32],
     predecessors: &mut [u32],
     route: &mut [u32],
 ) -> Answer
     requires { ⌜ Movable query (now «block_base») (now «allow_base») (now queue) (now predecessors) (now route) ⌝ }
     ensures { λ r. ⌜ replyOf r ≡ first
-        (bothRoutes (boardOf eightSteps (inputsOf query (now (groups .entry)) (now (numbers .entry)) (now (edges .entry))
+        (bothRoutes (boardOf (stepsOf (now (steps .entry)))
+        (inputsOf query (now (groups .entry)) (now (numbers .entry)) (now (edges .entry))
         (now («block_base» .entry)) (now («allow_base» .entry))))
         ++ placeChecks (inputsOf query (now (groups .entry)) (now (numbers .entry)) (now (edges .entry))
         (now («block_base» .entry)) (now («allow_base» .entry)))) ⌝ }
     ensures { λ r. ⌜ ThreeSame (now (queue .entry)) (now (predecessors .entry)) (now (route .entry))
         (now (queue .exit)) (now (predecessors .exit)) (now (route .exit)) ⌝ }
 {
-    let passed = check_routes(query, block_base, allow_base, queue, predecessors, route);
+    let passed = check_routes(
+        query,
+        block_base,
+        allow_base,
+        steps,
+        queue,
+        predecessors,
+        route,
+    );
     let placed = call_checks::check_places(query.window, groups, numbers, edges);
     first_of(passed, placed)
 }

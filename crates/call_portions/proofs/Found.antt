@@ -1,6 +1,6 @@
 -- What the checks of a step have found is what its parts ask: of the inputs, and of the search that record and areas hold.
 use Prim.Native.Nat.{ℕ}
-use mathlib.Core.Path.{_≡_, refl, sym, subst}
+use mathlib.Core.Path.{_≡_, refl}
 use mathlib.Core.Bool.{true}
 use mathlib.Core.Option.{none}
 use mathlib.Core.List.{List, [], _∷_, _++_}
@@ -15,8 +15,7 @@ use Rattle.base_model.specs.declared.Query.{Query}
 use Rattle.base_model.specs.declared.Record.{Record}
 use Rattle.base_model.specs.declared.Rect.{Rect}
 use Rattle.ground_rects.specs.Windows.{centres, windowFits, positionOf}
-use Rattle.rule_routes.specs.Edges.{Step, stepsOf, eightSteps, eachOnce}
-use Rattle.route_find.proofs.Order.{eight-once}
+use Rattle.rule_routes.specs.Edges.{stepsOf, eachOnce}
 use Rattle.rule_layouts.specs.Inputs.{Inputs, placesOf, boardOf}
 use Rattle.rule_layouts.specs.Flat.{placementsOf, inputsOf}
 use Rattle.rule_layouts.proofs.Fits.{fits-six}
@@ -42,16 +41,20 @@ unfolding allowSmall allowLong AllowReady
 allow-ready w Nobody base e f = tt
 allow-ready w (Bounded m) base e f = (e, leb-true (centres w) (length base) f)
 
-module _ (q : Query) (l : Limits) (groups numbers : List ℕ) (edges : List ℤ) (blockBase allowBase : List ℕ) (r : Record) (work : Work) (lists visited layouts points : List ℕ) where
+module _ (q : Query) (l : Limits) (groups numbers : List ℕ) (edges : List ℤ) (blockBase allowBase : List ℕ) (steps : List ℤ) (r : Record) (work : Work)
+    (lists visited layouts points : List ℕ) where
   abbrev pub i : Inputs
   i = inputsOf q groups numbers edges blockBase allowBase
 
   abbrev pub a : Store
   a = storeIn lists visited layouts points
 
-  module _ (passed : first (stepChecks i l r work a) ≡ none) where
-    found : Passed eightSteps eight-once i l r work a
-    found = step-passed eightSteps eight-once i l r work a passed
+  abbrev pub t : Terms
+  t = terms q groups numbers edges blockBase allowBase steps l
+
+  module _ (passed : first (stepChecks i l r work a) ≡ none) (once : eachOnce (stepsOf steps) ≡ true) where
+    found : Passed (stepsOf steps) once i l r work a
+    found = step-passed (stepsOf steps) once i l r work a passed
 
     begun : Begun i l work a
     unfolding stepChecks
@@ -77,51 +80,44 @@ module _ (q : Query) (l : Limits) (groups numbers : List ℕ) (edges : List ℤ)
     unfolding inputsOf
     unused-asks = used-parts i q l r lists visited layouts points window-fits (begun .limiting .states) (begun .limiting .results) (whole .few) passing
 
-    module _ (steps : List ℤ) (eight : stepsOf steps ≡ eightSteps) where
-      abbrev pub t : Terms
-      t = terms q groups numbers edges blockBase allowBase steps l
+    sound : Sound (boardIn t) (planIn t)
+    unfolding boardOf placesOf planOf inputsOf
+    sound = record {
+      at = positionOf (q .window);
+      on = record { evaluates = λ s. refl };
+      laidOut = regular-board (stepsOf steps) i once (begun .framing .startIn) (begun .framing .endIn);
+      six = fits-six groups (placementsOf numbers edges) (found .fair .grouped) (begun .grouping .slots);
+      few = whole .few;
+      states = begun .limiting .states;
+      results = begun .limiting .results;
+    }
 
-      once : eachOnce (stepsOf steps) ≡ true
-      once = subst (λ (s : List Step). eachOnce s ≡ true) (sym eight) eight-once
-
-      sound : Sound (boardIn t) (planIn t)
-      unfolding boardOf placesOf planOf inputsOf
-      sound = record {
-        at = positionOf (q .window);
-        on = record { evaluates = λ s. refl };
-        laidOut = regular-board (stepsOf steps) i once (begun .framing .startIn) (begun .framing .endIn);
-        six = fits-six groups (placementsOf numbers edges) (found .fair .grouped) (begun .grouping .slots);
-        few = whole .few;
-        states = begun .limiting .states;
-        results = begun .limiting .results;
-      }
-
-      pub given : Given t
-      unfolding inputsOf
-      given = record {
-        ready = λ s up named. record {
-          fits = window-fits;
-          startIn = begun .framing .startIn;
-          endIn = begun .framing .endIn;
-          slim = begun .framing .blockSmall;
-          bytes = begun .baselines .block;
-          allowed = allow-ready (q .window) (q .allow) allowBase (begun .framing .allowedSmall) (begun .baselines .allow);
-          rows = record { fours = whole .fours; eights = whole .eights; few = whole .few; grouped = whole .grouped; named = named };
-          once = once;
-          rising = up;
-        };
+    pub given : Given t
+    unfolding inputsOf
+    given = record {
+      ready = λ s up named. record {
         fits = window-fits;
-        sound = sound;
+        startIn = begun .framing .startIn;
+        endIn = begun .framing .endIn;
+        slim = begun .framing .blockSmall;
+        bytes = begun .baselines .block;
+        allowed = allow-ready (q .window) (q .allow) allowBase (begun .framing .allowedSmall) (begun .baselines .allow);
+        rows = record { fours = whole .fours; eights = whole .eights; few = whole .few; grouped = whole .grouped; named = named };
+        once = once;
+        rising = up;
+      };
+      fits = window-fits;
+      sound = sound;
+    }
+
+    -- the search that was read, laid back
+    module _ (shape : Shape r) (r′ : Record) (a′ : Store) (back : LaidBack i l r a r′ a′) where
+      pub holds : Holds t a (stateOf r a) r′ a′
+      holds = record {
+        rec = back .rec;
+        areas = back .store;
+        good = checked-good (stepsOf steps) i l r a shape (found .fair .few) (found .areas) (found .fits);
       }
 
-      -- the search that was read, laid back
-      module _ (shape : Shape r) (r′ : Record) (a′ : Store) (back : LaidBack i l r a r′ a′) where
-        pub holds : Holds t a (stateOf r a) r′ a′
-        holds = record {
-          rec = back .rec;
-          areas = back .store;
-          good = checked-good (stepsOf steps) i l r a shape (found .fair .few) (found .areas) (found .fits);
-        }
-
-        pub held : HoldsSome t r′ a′
-        held = record { given = given; s = stateOf r a; a₀ = a; holds = holds }
+      pub held : HoldsSome t r′ a′
+      held = record { given = given; s = stateOf r a; a₀ = a; holds = holds }

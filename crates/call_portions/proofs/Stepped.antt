@@ -1,23 +1,22 @@
 -- From the parts of a step to the whole: cleared working areas, and the call that is left.
 use Prim.Native.Nat.{ℕ}
 use mathlib.Core.Path.{_≡_, sym, _∙_, ap}
+use mathlib.Core.Bool.{true}
 use mathlib.Core.Option.{none}
 use mathlib.Core.List.{List}
 use lib.IntN.{ℤ}
-use lib.ListN.{length, take}
+use lib.ListN.{take}
 use Rattle.base_model.specs.Answers.{first}
 use Rattle.base_model.specs.declared.Limits.{Limits}
 use Rattle.base_model.specs.declared.Query.{Query}
 use Rattle.base_model.specs.declared.Record.{Record}
 use Rattle.base_model.specs.declared.Rect.{Rect}
 use Rattle.ground_rects.specs.Windows.{centres}
-use Rattle.rule_routes.specs.Edges.{Step, stepsOf, eightSteps}
-use Rattle.route_find.proofs.Order.{eight-once}
-use Rattle.rule_layouts.specs.Inputs.{Inputs}
+use Rattle.rule_routes.specs.Edges.{stepsOf, eachOnce}
 use Rattle.rule_layouts.specs.Flat.{inputsOf}
 use Rattle.rule_search.specs.Frames.{step}
-use Rattle.rule_calls.specs.Areas.{Work, Store, workIn, cleared, stateOf, recordOf, storeOf}
-use Rattle.rule_calls.specs.Calls.{planOf, stepChecks, stepCall}
+use Rattle.rule_calls.specs.Areas.{Work, Store, workIn, cleared, stateOf}
+use Rattle.rule_calls.specs.Calls.{stepChecks, stepOver}
 use Rattle.rule_calls.proofs.Back.{laid-clear}
 use Rattle.rule_calls.proofs.StepLaws.{left, step-is}
 use Rattle.search_steps.specs.Terms.{terms, planIn, Holds}
@@ -38,16 +37,12 @@ module _ (w : Rect) (work : Work) (counts : List ℤ) (map queue predecessors ro
   work-after map′ queue′ predecessors′ route′ k =
       (λ j. workIn counts (k .mapKept j) (k .queueKept j) (k .predecessorsKept j) (k .routeKept j)) ∙ e
 
-pub stepped : (q : Query) (l : Limits) (groups numbers : List ℕ) (edges : List ℤ) (blockBase allowBase : List ℕ) (r : Record) (n : ℕ) (work : Work) (a : Store)
-    → first (stepChecks (inputsOf q groups numbers edges blockBase allowBase) l r work a) ≡ none → (steps : List ℤ) → stepsOf steps ≡ eightSteps
+pub stepped : (q : Query) (l : Limits) (groups numbers : List ℕ) (edges : List ℤ) (blockBase allowBase : List ℕ) (steps : List ℤ) (r : Record) (n : ℕ) (work : Work) (a : Store)
+    → first (stepChecks (inputsOf q groups numbers edges blockBase allowBase) l r work a) ≡ none → eachOnce (stepsOf steps) ≡ true
     → (r′ : Record) (work′ : Work) (a′ : Store) → work′ ≡ cleared (q .window) work
     → Holds (terms q groups numbers edges blockBase allowBase steps l) a (step (planIn (terms q groups numbers edges blockBase allowBase steps l)) n (stateOf r a)) r′ a′
-    → stepCall eightSteps (inputsOf q groups numbers edges blockBase allowBase) l r n work a ≡ record { answer = none; rec = r′; work = work′; store = a′ }
+    → stepOver (stepsOf steps) (inputsOf q groups numbers edges blockBase allowBase) l r n work a ≡ record { answer = none; rec = r′; work = work′; store = a′ }
 unfolding left inputsOf
-stepped q l groups numbers edges blockBase allowBase r n work a passed steps eight r′ work′ a′ w h =
-    let i : Inputs = inputsOf q groups numbers edges blockBase allowBase in
-    let er : r′ ≡ recordOf (length (i .places)) (step (planOf eightSteps i l) n (stateOf r a)) =
-    h .rec ∙ ap (λ (s : List Step). recordOf (length (i .places)) (step (planOf s i l) n (stateOf r a))) eight in
-    let ea : a′ ≡ storeOf i l (step (planOf eightSteps i l) n (stateOf r a)) a =
-    h .areas ∙ ap (λ (s : List Step). storeOf i l (step (planOf s i l) n (stateOf r a)) a) eight in
-    step-is eightSteps eight-once i l r work a passed n ∙ (λ j. record { answer = none; rec = sym er j; work = sym w j; store = sym ea j })
+stepped q l groups numbers edges blockBase allowBase steps r n work a passed once r′ work′ a′ w h =
+    step-is (stepsOf steps) once (inputsOf q groups numbers edges blockBase allowBase) l r work a passed n
+    ∙ (λ j. record { answer = none; rec = sym (h .rec) j; work = sym w j; store = sym (h .areas) j })

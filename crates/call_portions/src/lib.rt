@@ -8,10 +8,10 @@ ghost use mathlib.Core.Bool.{true};
 ghost use mathlib.Core.Option.{none};
 ghost use Rattle.base_model.specs.Answers.{first};
 ghost use Rattle.ground_rects.specs.Windows.{centres, windowFits};
-ghost use Rattle.rule_routes.specs.Edges.{eightSteps};
+ghost use Rattle.rule_routes.specs.Edges.{stepsOf, eachOnce};
 ghost use Rattle.rule_layouts.specs.Flat.{inputsOf};
 ghost use Rattle.rule_calls.specs.Areas.{workIn, storeIn};
-ghost use Rattle.rule_calls.specs.Calls.{stepChecks, stepCall};
+ghost use Rattle.rule_calls.specs.Calls.{stepChecks, stepOver};
 ghost use Rattle.search_steps.specs.Terms.{terms, HoldsSome};
 ghost use Rattle.search_steps.specs.Turned.{StepsTo};
 ghost use Rattle.call_portions.specs.Ground.{accepted, WorkClear, WorkKept};
@@ -87,6 +87,7 @@ pub fn step_checked(
     edges: &[i32],
     block_base: &[u8],
     allow_base: &[u8],
+    steps: &[i32],
     rec: Record,
     n: u32,
     counts: &mut [i32],
@@ -102,8 +103,9 @@ pub fn step_checked(
     requires { ⌜ first (stepChecks (inputsOf query (now groups) (now numbers) (now edges) (now «block_base») (now «allow_base»)) limits rec
         (workIn (now counts) (now map) (now queue) (now predecessors) (now route))
         (storeIn (now lists) (now visited) (now layouts) (now points))) ≡ none ⌝ }
+    requires { ⌜ eachOnce (stepsOf (now steps)) ≡ true ⌝ }
     ensures { λ r. ⌜
-        stepCall eightSteps
+        stepOver (stepsOf (now (steps .entry)))
         (inputsOf query (now (groups .entry)) (now (numbers .entry)) (now (edges .entry))
         (now («block_base» .entry)) (now («allow_base» .entry)))
         limits rec n
@@ -114,7 +116,6 @@ pub fn step_checked(
 {
     call_clear::clear_work(query.window, counts, map, queue, predecessors, route);
     let tidy = search_tidy::clear_unused(query, limits, rec, lists, visited, layouts, points);
-    let steps = route_find::original_steps();
     portions(
         query,
         limits,
@@ -123,7 +124,7 @@ pub fn step_checked(
         edges,
         block_base,
         allow_base,
-        &steps,
+        steps,
         tidy,
         n,
         map,

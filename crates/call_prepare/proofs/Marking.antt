@@ -20,9 +20,9 @@ use Rattle.ground_rects.proofs.Windows.{framed, fits-larger}
 use Rattle.ground_baseline.specs.Baseline.{Map, mapFits}
 use Rattle.ground_baseline.specs.Stamps.{Checked}
 use Rattle.ground_baseline.proofs.Marks.{mapped}
-use Rattle.rule_routes.specs.Edges.{Step, eightSteps}
+use Rattle.rule_routes.specs.Edges.{Step}
 use Rattle.rule_calls.specs.Areas.{Work, workIn, countsLength, laid, cleared}
-use Rattle.rule_calls.specs.Calls.{Preparation, prepareChecks, prepareCall}
+use Rattle.rule_calls.specs.Calls.{Preparation, prepareChecks, prepareOver}
 use Rattle.rule_calls.proofs.Back.{laid-none}
 use Rattle.call_passage.specs.Passages.{passageOver, PassageReady}
 use Rattle.call_prepare.proofs.Preparing.{passed, marksOf, length-baseline, laid-whole, preparedBy, prepared-by}
@@ -124,11 +124,11 @@ module _ (q : Preparation) (b : List ℕ) (a : Work) (e : first (prepareChecks q
           }
 
       -- once the passage is checked
-      module _ (steps : List Step) (original : steps ≡ eightSteps) (answer : Answer)
+      module _ (steps : List Step) (answer : Answer)
           (said : replyOf answer ≡ passageOver steps (q .window) (q .start) (q .end) (take (x * h) base))
           (counts : List ℤ) (map queue predecessors route : List ℕ) (emptied : Emptied (q .window) a (workIn counts map queue predecessors route) (x * h)) where
-        comes-to : prepareCall eightSteps q b a ≡ preparedBy q b a (replyOf answer)
-        comes-to = prepared-by eightSteps q b a e ∙ ap (preparedBy q b a) (sym (said ∙ rw (original, base-part) refl))
+        comes-to : prepareOver steps q b a ≡ preparedBy q b a (replyOf answer)
+        comes-to = prepared-by steps q b a e ∙ ap (preparedBy q b a) (sym (said ∙ rw base-part refl))
 
         work-is : cleared (q .window) a ≡ workIn counts map queue predecessors route
         work-is =
@@ -136,7 +136,7 @@ module _ (q : Preparation) (b : List ℕ) (a : Work) (e : first (prepareChecks q
             emptied-is (q .window) a counts map queue predecessors route (subst (Emptied (q .window) a now) counted emptied)
 
         pub leaves-zeros : (r : Refusal) → answer ≡ Refused r → (base′ : List ℕ) → base′ ≡ replicate (x * h) 0 ++ drop (x * h) base
-            → prepareCall eightSteps q b a ≡ record { answer = replyOf (Refused r); baseline = base′; work = workIn counts map queue predecessors route }
+            → prepareOver steps q b a ≡ record { answer = replyOf (Refused r); baseline = base′; work = workIn counts map queue predecessors route }
         unfolding preparedBy replyOf
         leaves-zeros r k base′ z =
             let n = centres (q .window) in
@@ -144,7 +144,7 @@ module _ (q : Preparation) (b : List ℕ) (a : Work) (e : first (prepareChecks q
             comes-to ∙ ap (λ (o : Answer). preparedBy q b a (replyOf o)) k ∙ rw (work-is, zeros) refl
 
         pub leaves-marks : answer ≡ Done
-            → prepareCall eightSteps q b a ≡ record { answer = replyOf Done; baseline = base; work = workIn counts map queue predecessors route }
+            → prepareOver steps q b a ≡ record { answer = replyOf Done; baseline = base; work = workIn counts map queue predecessors route }
         unfolding preparedBy replyOf
         leaves-marks k =
             let n = centres (q .window) in

@@ -23,7 +23,7 @@ use Rattle.rule_routes.specs.Edges.{Step}
 use Rattle.rule_layouts.specs.Inputs.{boardOf}
 use Rattle.rule_calls.specs.Areas.{Work, workFits, countsLength, laid, cleared}
 use Rattle.rule_calls.specs.Checks.{routeChecks}
-use Rattle.rule_calls.specs.Calls.{Preparation, Prepared, bare, prepareChecks, prepareCall}
+use Rattle.rule_calls.specs.Calls.{Preparation, Prepared, bare, prepareChecks, prepareOver}
 use Rattle.call_passage.specs.Passages.{passageOver}
 use Rattle.call_passage.proofs.Bare.{passage-is}
 
@@ -102,15 +102,15 @@ preparedBy q baseline a answer =
     ]
 
 pub prepared-by : (steps : List Step) (q : Preparation) (baseline : List ℕ) (a : Work) → first (prepareChecks q baseline a) ≡ none →
-    prepareCall steps q baseline a
+    prepareOver steps q baseline a
     ≡ preparedBy q baseline a (passageOver steps (q .window) (q .start) (q .end) (marksOf q))
-unfolding prepareCall preparedBy
+unfolding prepareOver preparedBy
 prepared-by steps q baseline a e =
     let base = marksOf q in
     let p : first (routeChecks (boardOf steps (bare q base)) (boardOf steps (bare q base) .block)) ≡ passageOver steps (q .window) (q .start) (q .end) base
     = unfold boardOf bare in passage-is steps (bare q base) (q .mover) base
     in
-    rw (prepareCall, e, p) refl
+    rw (prepareOver, e, p) refl
 
 -- by the answer that says which of checks 1 to 6 fails first
 module _ (steps : List Step) (q : Preparation) (baseline : List ℕ) (a : Work) {o : Answer} (said : replyOf o ≡ first (prepareChecks q baseline a)) where
@@ -118,9 +118,9 @@ module _ (steps : List Step) (q : Preparation) (baseline : List ℕ) (a : Work) 
   unfolding replyOf
   none-refused e = sym said ∙ ap replyOf e
 
-  pub prepare-refused : {r : Refusal} → o ≡ Refused r → prepareCall steps q baseline a ≡ record { answer = replyOf o; baseline = baseline; work = a }
-  unfolding prepareCall replyOf
+  pub prepare-refused : {r : Refusal} → o ≡ Refused r → prepareOver steps q baseline a ≡ record { answer = replyOf o; baseline = baseline; work = a }
+  unfolding prepareOver replyOf
   prepare-refused {r} e =
       let says : replyOf o ≡ some (saidOf r) = ap replyOf e in
       let f : first (prepareChecks q baseline a) ≡ some (saidOf r) = sym said ∙ says in
-      rw (prepareCall, f, says) refl
+      rw (prepareOver, f, says) refl

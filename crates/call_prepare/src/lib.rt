@@ -6,15 +6,16 @@ use base_model::Position;
 use base_model::Rect;
 use base_model::Refusal;
 use call_lengths::WorkLengths;
+use route_table::table_fits;
 ghost use mathlib.Core.Path.{_≡_};
 ghost use mathlib.Core.Option.{none};
 ghost use mathlib.Core.List.{List};
 ghost use Prim.Native.Nat.{ℕ};
 ghost use lib.ListN.{length};
 ghost use Rattle.base_model.specs.Answers.{first, replyOf};
-ghost use Rattle.rule_routes.specs.Edges.{eightSteps};
+ghost use Rattle.rule_routes.specs.Edges.{stepsOf};
 ghost use Rattle.rule_calls.specs.Areas.{Work, workIn};
-ghost use Rattle.rule_calls.specs.Calls.{prepareChecks, prepareCall};
+ghost use Rattle.rule_calls.specs.Calls.{prepareChecks, prepareOver, prepareCall};
 ghost use Rattle.call_lengths.specs.Lengths.{WorkHas};
 ghost use Rattle.call_prepare.specs.Prepare.{preparation};
 
@@ -72,6 +73,7 @@ fn prepare_checked(
     start: Position,
     end: Position,
     mover: Bounds,
+    steps: &[i32],
     baseline: &mut [u8],
     counts: &mut [i32],
     map: &mut [u8],
@@ -82,7 +84,7 @@ fn prepare_checked(
     requires { ⌜ first (prepareChecks (preparation across down (now cells) (now obstacles) window start end mover) (now baseline)
         (workIn (now counts) (now map) (now queue) (now predecessors) (now route))) ≡ none ⌝ }
     ensures { λ r. ⌜
-        prepareCall eightSteps
+        prepareOver (stepsOf (now (steps .entry)))
         (preparation across down (now (cells .entry)) (now (obstacles .entry)) window start end mover)
         (now (baseline .entry))
         (workIn (now (counts .entry)) (now (map .entry)) (now (queue .entry)) (now (predecessors .entry)) (now (route .entry)))
@@ -108,13 +110,12 @@ fn prepare_checked(
         counts,
         baseline,
     );
-    let steps = route_find::original_steps();
     let answer = call_passage::check_passage(
         &baseline[..c],
         window,
         start,
         end,
-        &steps,
+        steps,
         queue,
         predecessors,
         route,
@@ -127,7 +128,7 @@ fn prepare_checked(
 }
 
 // Prepares a mover from terrain and obstacles: marks its baseline over the window, and looks whether it passes from start to end.
-// Refuses 1 to 9. Refusals 1 to 6 write nothing; 7 to 9 leave the baseline and the working areas zero up to their lengths.
+// Refuses 19, then 1 to 9. Refusals 19 and 1 to 6 write nothing; 7 to 9 leave the baseline and the working areas zero up to their lengths.
 pub fn prepare(
     across: u32,
     down: u32,
@@ -137,6 +138,7 @@ pub fn prepare(
     start: Position,
     end: Position,
     mover: Bounds,
+    steps: &[i32],
     baseline: &mut [u8],
     counts: &mut [i32],
     map: &mut [u8],
@@ -145,7 +147,7 @@ pub fn prepare(
     route: &mut [u32],
 ) -> Answer
     ensures { λ r. ⌜
-        prepareCall eightSteps
+        prepareCall (now (steps .entry))
         (preparation across down (now (cells .entry)) (now (obstacles .entry)) window start end mover)
         (now (baseline .entry))
         (workIn (now (counts .entry)) (now (map .entry)) (now (queue .entry)) (now (predecessors .entry)) (now (route .entry)))
@@ -156,6 +158,9 @@ pub fn prepare(
         }
         ⌝ }
 {
+    if !table_fits(steps) {
+        return Answer::Refused(Refusal::StepsInvalid);
+    }
     let room = WorkLengths {
         counts: counts.len(),
         map: map.len(),
@@ -187,6 +192,7 @@ pub fn prepare(
         start,
         end,
         mover,
+        steps,
         baseline,
         counts,
         map,

@@ -1,4 +1,4 @@
--- What the checks of a step answer: the first part that refuses, and 16 where none does.
+-- What the checks of a step answer: the first part that refuses, and 16 where none does; what the call leaves by its table of steps.
 use Prim.Native.Nat.{ℕ, _+_, _/_}
 use mathlib.Core.Path.{_≡_, refl, sym, _∙_, subst}
 use mathlib.Core.Bool.{true, false}
@@ -12,14 +12,15 @@ use Rattle.base_model.specs.declared.Limits.{Limits}
 use Rattle.base_model.specs.declared.Query.{Query}
 use Rattle.base_model.specs.declared.Record.{Record}
 use Rattle.base_model.proofs.Asking.{first-holds, first-fails}
-use Rattle.rule_routes.specs.Edges.{Step}
+use Rattle.rule_routes.specs.Edges.{tableFits}
 use Rattle.rule_layouts.specs.Inputs.{Inputs}
 use Rattle.rule_layouts.specs.Flat.{placementsOf, inputsOf}
 use Rattle.rule_calls.specs.Areas.{Work, Store, workIn, storeIn}
 use Rattle.rule_calls.specs.Checks.{placeChecks}
 use Rattle.rule_calls.specs.RecordCheck.{recordFits}
-use Rattle.rule_calls.specs.Calls.{beginChecks, stepChecks, stepCall}
+use Rattle.rule_calls.specs.Calls.{beginChecks, stepChecks, stepOver, stepCall}
 use Rattle.rule_calls.proofs.Sound.{long}
+use Rattle.rule_calls.proofs.Tables.{step-over}
 use Rattle.call_lengths.specs.declared.WorkLengths.{WorkLengths}
 use Rattle.call_lengths.specs.declared.StoreLengths.{StoreLengths}
 use Rattle.call_lengths.specs.Lengths.{WorkHas, StoreHas}
@@ -106,8 +107,9 @@ module _ (q : Query) (groups numbers : List ℕ) (edges : List ℤ) (blockBase a
   unfolding inputsOf
   places-as f = f inputs refl refl refl
 
--- a refused step leaves all as it was
-pub refused : (steps : List Step) (i : Inputs) (l : Limits) (r : Record) (n : ℕ) (w : Work) (a : Store) (e : Said) → first (stepChecks i l r w a) ≡ some e
-    → stepCall steps i l r n w a ≡ record { answer = some e; rec = r; work = w; store = a }
-unfolding stepCall
-refused steps i l r n w a e h = rw (stepCall, h) refl
+-- ---- the call, where its table fits
+module _ (table : List ℤ) (i : Inputs) (l : Limits) (r : Record) (n : ℕ) (w : Work) (a : Store) where
+  -- a refused step leaves all as it was
+  pub refused : (e : Said) → tableFits table ≡ true → first (stepChecks i l r w a) ≡ some e → stepCall table i l r n w a ≡ record { answer = some e; rec = r; work = w; store = a }
+  unfolding stepOver
+  refused e f h = step-over table f i l r n w a ∙ rw (stepOver, h) refl

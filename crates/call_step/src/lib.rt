@@ -7,9 +7,9 @@ use base_model::Refusal;
 use base_model::Reply;
 use call_lengths::StoreLengths;
 use call_lengths::WorkLengths;
+use route_table::table_fits;
 ghost use mathlib.Core.Path.{_≡_};
 ghost use Rattle.base_model.specs.Answers.{first, replyOf};
-ghost use Rattle.rule_routes.specs.Edges.{eightSteps};
 ghost use Rattle.rule_layouts.specs.Flat.{inputsOf};
 ghost use Rattle.rule_calls.specs.Areas.{Work, workIn, storeIn};
 ghost use Rattle.rule_calls.specs.Calls.{stepChecks, stepCall};
@@ -85,6 +85,7 @@ pub fn step(
     edges: &[i32],
     block_base: &[u8],
     allow_base: &[u8],
+    steps: &[i32],
     rec: Record,
     n: u32,
     counts: &mut [i32],
@@ -98,7 +99,7 @@ pub fn step(
     points: &mut [u32],
 ) -> Reply
     ensures { λ r. ⌜
-        stepCall eightSteps
+        stepCall (now (steps .entry))
         (inputsOf query (now (groups .entry)) (now (numbers .entry)) (now (edges .entry))
         (now («block_base» .entry)) (now («allow_base» .entry)))
         limits rec n
@@ -112,6 +113,12 @@ pub fn step(
         }
         ⌝ }
 {
+    if !table_fits(steps) {
+        return Reply {
+            answer: Answer::Refused(Refusal::StepsInvalid),
+            rec: rec,
+        };
+    }
     let work = WorkLengths {
         counts: counts.len(),
         map: map.len(),
@@ -148,6 +155,7 @@ pub fn step(
         edges,
         block_base,
         allow_base,
+        steps,
         rec,
         n,
         counts,

@@ -97,7 +97,7 @@ fn show_counts(baseline: &Baseline) {
 
 // Judges the ground with no building on it; prints the verdict, 4 where the mover passes and 7 where it is shut out, and the ground left.
 // There are no groups, no placements, no allowed mover and no members of a selection: these are empty.
-fn judge_ground(baseline: &Baseline) {
+fn judge_ground(steps: &[i32], baseline: &Baseline) {
     let query = Query {
         window: WINDOW,
         start: START,
@@ -117,6 +117,7 @@ fn judge_ground(baseline: &Baseline) {
         &[],
         baseline,
         &[],
+        steps,
         &[],
         &mut counts,
         &mut map,
@@ -140,16 +141,16 @@ fn judge_ground(baseline: &Baseline) {
 }
 
 // Prints what was done and its answer, then the counts and the verdict.
-fn say_done(what: &[u8], answer: Answer, baseline: &Baseline) {
+fn say_done(what: &[u8], answer: Answer, steps: &[i32], baseline: &Baseline) {
     say::word(what);
     answers::say_answer(answer);
     say::end();
     show_counts(baseline);
-    judge_ground(baseline);
+    judge_ground(steps, baseline);
 }
 
 // Prepares the mover; there is no obstacle.
-fn prepare_mover(baseline: &mut Baseline) {
+fn prepare_mover(steps: &[i32], baseline: &mut Baseline) {
     let mut counts = [0i32; CORNERS];
     let mut map = [0u8; CENTRES];
     let mut queue = [0u32; CENTRES];
@@ -164,6 +165,7 @@ fn prepare_mover(baseline: &mut Baseline) {
         START,
         END,
         MOVER,
+        steps,
         baseline,
         &mut counts,
         &mut map,
@@ -171,32 +173,34 @@ fn prepare_mover(baseline: &mut Baseline) {
         &mut predecessors,
         &mut route,
     );
-    say_done(b"prepare", answer, baseline);
+    say_done(b"prepare", answer, steps, baseline);
 }
 
 // Puts a rock down.
-fn cover_rock(what: &[u8], rock: Rect, baseline: &mut Baseline) {
+fn cover_rock(what: &[u8], rock: Rect, steps: &[i32], baseline: &mut Baseline) {
     let answer = walls::cover(WINDOW, MOVER, rock, baseline);
-    say_done(what, answer, baseline);
+    say_done(what, answer, steps, baseline);
 }
 
 // Takes a rock up.
-fn lift_rock(what: &[u8], rock: Rect, baseline: &mut Baseline) {
+fn lift_rock(what: &[u8], rock: Rect, steps: &[i32], baseline: &mut Baseline) {
     let answer = walls::lift(WINDOW, MOVER, rock, baseline);
-    say_done(what, answer, baseline);
+    say_done(what, answer, steps, baseline);
 }
 
 // Two rocks are put down on one place: the second raises the counts there and changes no verdict. It is dragged to the lower end, and the
 // two shut the mover out. A lift where no rock stands is refused with 20: one of its counts is above zero, yet nothing is written. With
 // both rocks taken up the counts are the prepared ones.
 fn main() {
+    let table = walls::original_steps();
+    let steps = &table[..];
     let mut baseline = [0u8; CENTRES];
-    prepare_mover(&mut baseline);
-    cover_rock(b"cover upper", UPPER, &mut baseline);
-    cover_rock(b"cover upper again", UPPER, &mut baseline);
-    lift_rock(b"lift upper", UPPER, &mut baseline);
-    cover_rock(b"cover lower", LOWER, &mut baseline);
-    lift_rock(b"lift beside", BESIDE, &mut baseline);
-    lift_rock(b"lift lower", LOWER, &mut baseline);
-    lift_rock(b"lift upper", UPPER, &mut baseline);
+    prepare_mover(steps, &mut baseline);
+    cover_rock(b"cover upper", UPPER, steps, &mut baseline);
+    cover_rock(b"cover upper again", UPPER, steps, &mut baseline);
+    lift_rock(b"lift upper", UPPER, steps, &mut baseline);
+    cover_rock(b"cover lower", LOWER, steps, &mut baseline);
+    lift_rock(b"lift beside", BESIDE, steps, &mut baseline);
+    lift_rock(b"lift lower", LOWER, steps, &mut baseline);
+    lift_rock(b"lift upper", UPPER, steps, &mut baseline);
 }

@@ -17,6 +17,7 @@ fn cut(
     signed: &[i32],
     bytes: &[u8],
     shorts: &[u16],
+    steps: &[i32],
     block: &mut Marks,
     allow: &mut Marks,
     counts: &mut Counts,
@@ -66,6 +67,7 @@ fn cut(
         &shorts[f..g],
         &bytes[g..h],
         &bytes[h..i],
+        steps,
         block,
         allow,
         counts,
@@ -84,6 +86,7 @@ fn cut(
 // Answers the searches of a text, one a line, up to the first line that is none.
 pub fn answer_all(
     text: &[u8],
+    steps: &[i32],
     unsigned: &mut [u32; MOST_NUMBERS],
     signed: &mut [i32; MOST_NUMBERS],
     bytes: &mut [u8; MOST_NUMBERS],
@@ -116,6 +119,7 @@ pub fn answer_all(
             signed,
             bytes,
             shorts,
+            steps,
             block,
             allow,
             counts,

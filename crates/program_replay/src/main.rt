@@ -59,8 +59,10 @@ fn answer_arrived(
         say_cut();
         return;
     }
+    let steps = route_table::original_steps();
     let fine = program_lines::answer_all(
         &text[0..n],
+        &steps,
         unsigned,
         signed,
         bytes,

@@ -1,3 +1,4 @@
 pub mod Promise
 pub mod Longer
 pub mod Judging
+pub mod Alike

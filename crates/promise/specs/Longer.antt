@@ -6,8 +6,8 @@ use mathlib.Core.Path.{_≡_}
 use mathlib.Core.Logic.{_≢_}
 use mathlib.Core.Option.{none}
 use mathlib.Core.List.{List, _++_}
+use lib.IntN.{ℤ}
 use Rattle.base_model.specs.declared.Limits.{Limits}
-use Rattle.rule_routes.specs.Edges.{Step}
 use Rattle.rule_layouts.specs.Inputs.{Inputs}
 use Rattle.rule_search.specs.State.{Running}
 use Rattle.rule_calls.specs.Areas.{Work, numberOf, pointsOf}
@@ -33,31 +33,31 @@ pub record BeginsWith (later earlier : Held) : Type 0 where
   pub same : (k : ℕ) → k < earlier .rec .layouts → layoutAt later k ≡ layoutAt earlier k
   pub routes : (k : ℕ) → k < earlier .rec .layouts → routeAt later k ≡ routeAt earlier k
 
-module _ (steps : List Step) where
+module _ (table : List ℤ) where
   -- h is what the search held at some moment: after the calls `before`, with which its list of calls begins
-  pub record Moment {i : Inputs} {l : Limits} (s : Search steps i l) (h : Held) : Type 0 where
+  pub record Moment {i : Inputs} {l : Limits} (s : Search table i l) (h : Held) : Type 0 where
     pub before : List Call
     pub later : List Call
     pub all : s .calls ≡ before ++ later
-    pub held : run steps (begins steps s) before ≡ h
+    pub held : run (begins table s) before ≡ h
 
   -- Two searches over the same inputs, each with limits, areas and calls of its own.
-  pub record Longer {i : Inputs} {l m : Limits} (s : Search steps i l) (t : Search steps i m) : Type 0 where
+  pub record Longer {i : Inputs} {l m : Limits} (s : Search table i l) (t : Search table i m) : Type 0 where
     -- the second has stopped; the first has too, or is still running
-    pub extends : NoSmaller l m → HasStopped (ends steps t) → BeginsWith (ends steps t) (ends steps s)
+    pub extends : NoSmaller l m → HasStopped (ends table t) → BeginsWith (ends table t) (ends table s)
     -- the first is Exhausted: so is the second, and the first begins with it too, so that layouts, routes and evaluations are the same
-    pub exhausted : NoSmaller l m → HasStopped (ends steps t) → HasExhausted (ends steps s)
-        → HasExhausted (ends steps t) × BeginsWith (ends steps s) (ends steps t)
+    pub exhausted : NoSmaller l m → HasStopped (ends table t) → HasExhausted (ends table s)
+        → HasExhausted (ends table t) × BeginsWith (ends table s) (ends table t)
     -- a reading of layout k, accepted at some moment of each, hands back the same points, whatever the limits
     pub readings : (h u : Held) → Moment s h → Moment t u → (k : ℕ) (a b : Inputs) (x y : Limits)
         → readCall a x (h .rec) k (h .store) .answer ≡ none → readCall b y (u .rec) k (u .store) .answer ≡ none
         → readCall a x (h .rec) k (h .store) .points ≡ readCall b y (u .rec) k (u .store) .points
 
   -- a search stepped further: through any calls its list only grows, in place
-  unfoldable pub OnlyGrows : {i : Inputs} {l : Limits} → Search steps i l → Type 0
-  OnlyGrows s = (h : Held) → Moment s h → BeginsWith (ends steps s) h
+  unfoldable pub OnlyGrows : {i : Inputs} {l : Limits} → Search table i l → Type 0
+  OnlyGrows s = (h : Held) → Moment s h → BeginsWith (ends table s) h
 
   -- an accepted step by the state limit or more leaves the search stopped
-  unfoldable pub StopsInTime : {i : Inputs} {l : Limits} → Search steps i l → Type 0
+  unfoldable pub StopsInTime : {i : Inputs} {l : Limits} → Search table i l → Type 0
   StopsInTime {i} {l} s =
-      (n : ℕ) (work : Work) → l .states ≤ n → answerTo steps (ends steps s) (stepping i l n work) ≡ none → HasStopped (after steps (ends steps s) (stepping i l n work))
+      (n : ℕ) (work : Work) → l .states ≤ n → answerTo (ends table s) (stepping table i l n work) ≡ none → HasStopped (after (ends table s) (stepping table i l n work))

@@ -3,3 +3,4 @@ pub mod KeptOn
 pub mod ExtendedOn
 pub mod CountsKept
 pub mod JudgedKept
+pub mod AlikeKept

@@ -2,3 +2,4 @@ pub mod PromiseOn
 pub mod LongerOn
 pub mod CountsOn
 pub mod JudgedOn
+pub mod AlikeOn

@@ -4,6 +4,7 @@ use Prim.Native.Nat.{ℕ, _≤_, _<_}
 use mathlib.Core.Path.{_≡_}
 use mathlib.Core.Logic.{_≢_}
 use mathlib.Core.List.{List, _++_}
+use lib.IntN.{ℤ}
 use lib.ListN.{getD}
 use Rattle.base_model.specs.declared.Limits.{Limits}
 use Rattle.rule_layouts.specs.Inputs.{Inputs}
@@ -34,14 +35,14 @@ pub record BeginsWithOn (later earlier : HeldOn) : Type 0 where
   pub routes : (k : ℕ) → k < layoutsOn earlier → routeOn later k ≡ routeOn earlier k
 
 -- h is what the search held at some moment: after the calls `before`, with which its list of calls begins
-pub record MomentOn {i : Inputs} {l : Limits} (s : SearchOn i l) (h : HeldOn) : Type 0 where
+pub record MomentOn {table : List ℤ} {i : Inputs} {l : Limits} (s : SearchOn table i l) (h : HeldOn) : Type 0 where
   pub before : List Call
   pub later : List Call
   pub all : s .calls ≡ before ++ later
   pub held : runOn (beginsOn s) before ≡ h
 
 -- Two searches over the same inputs, each with limits, numbers, areas and calls of its own.
-pub record LongerOn {i : Inputs} {l m : Limits} (s : SearchOn i l) (t : SearchOn i m) : Type 0 where
+pub record LongerOn {table : List ℤ} {i : Inputs} {l m : Limits} (s : SearchOn table i l) (t : SearchOn table i m) : Type 0 where
   pub extends : NoSmaller l m → HasStoppedOn (endsOn t) → BeginsWithOn (endsOn t) (endsOn s)
   pub exhausted : NoSmaller l m → HasStoppedOn (endsOn t) → HasExhaustedOn (endsOn s) → HasExhaustedOn (endsOn t) × BeginsWithOn (endsOn s) (endsOn t)
   pub readings : (h u : HeldOn) → MomentOn s h → MomentOn t u → (k : ℕ) (a b : Inputs) (x y : Limits)
@@ -49,10 +50,10 @@ pub record LongerOn {i : Inputs} {l m : Limits} (s : SearchOn i l) (t : SearchOn
       → pointsTold (readOn a x (h .numbers) k (h .store)) (h .store .points) ≡ pointsTold (readOn b y (u .numbers) k (u .store)) (u .store .points)
 
 -- a search stepped further keeps its list
-unfoldable pub OnlyGrowsOn : {i : Inputs} {l : Limits} → SearchOn i l → Type 0
+unfoldable pub OnlyGrowsOn : {table : List ℤ} {i : Inputs} {l : Limits} → SearchOn table i l → Type 0
 OnlyGrowsOn s = (h : HeldOn) → MomentOn s h → BeginsWithOn (endsOn s) h
 
 -- an accepted step by the state limit or more leaves the search stopped
-unfoldable pub StopsInTimeOn : {i : Inputs} {l : Limits} → SearchOn i l → Type 0
-StopsInTimeOn {i} {l} s =
-    (n : ℕ) (work : Work) → l .states ≤ n → answerOn (endsOn s) (stepping i l n work) ≡ 0 → HasStoppedOn (afterOn (endsOn s) (stepping i l n work))
+unfoldable pub StopsInTimeOn : {table : List ℤ} {i : Inputs} {l : Limits} → SearchOn table i l → Type 0
+StopsInTimeOn {table} {i} {l} s =
+    (n : ℕ) (work : Work) → l .states ≤ n → answerOn (endsOn s) (stepping table i l n work) ≡ 0 → HasStoppedOn (afterOn (endsOn s) (stepping table i l n work))

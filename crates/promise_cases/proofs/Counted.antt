@@ -10,7 +10,7 @@ use Rattle.base_model.specs.declared.Allow.the-variants.{Bounded}
 use Rattle.base_model.specs.declared.Limits.{Limits}
 use Rattle.base_model.specs.declared.Verdict.the-variants.{Open, Shut, Wall}
 use Rattle.rule_covers.specs.Covers.{oneMore, mayRise, offCentre, changed, mayChange, changeChecks, changeCall, coverCall}
-use Rattle.rule_routes.specs.Edges.{eightSteps}
+use Rattle.rule_routes.specs.Edges.{originalSteps}
 use Rattle.rule_layouts.specs.Inputs.{Inputs}
 use Rattle.rule_search.specs.State.{Exhausted}
 use Rattle.rule_calls.specs.Calls.{prepareCall, After, judges, judgeCall}
@@ -52,7 +52,7 @@ searched i =
     shownBy i l (begins i l .answer) b
 
 unfoldable judgedOn : Inputs → List ℕ → Shown
-judgedOn i s = judged (judgeCall eightSteps i s (workFor W) .answer)
+judgedOn i s = judged (judgeCall originalSteps i s (workFor W) .answer)
 
 -- a count above the middle and one below it; in each row of the centre column; at the start and at the end
 unfoldable around : (top bottom : ℕ) → List ℕ
@@ -72,7 +72,7 @@ wall = result Exhausted 2 2 (layout (0 ∷ []) (0 ∷ 1 ∷ 1 ∷ 2 ∷ 2 ∷ 2 
 -- P's window on a map of one open cell, with these obstacles, for a mover of one pixel
 unfoldable ground : List ℤ → List ℕ
 ground obstacles =
-    prepareCall eightSteps
+    prepareCall originalSteps
     (record { map = record { across = 1; down = 1; cells = 1 ∷ [] }; obstacles = obstacles; window = W; start = at 0 1; end = at 4 1; mover = still0 })
     (nines 15) (workFor W) .baseline
 

@@ -3,14 +3,14 @@
 use Prim.Native.Nat.{ℕ, suc, _≤_}
 use mathlib.Core.Path.{_≡_, refl}
 use mathlib.Core.List.{List, [], _∷_, List·Memᴰ·not-nil}
+use lib.IntN.{ℤ}
 use lib.ListN.{replicate}
 use Rattle.base_laws.specs.Lists.{HowMany}
 use Rattle.base_model.specs.declared.Placement.{Placement}
 use Rattle.base_model.specs.declared.Allow.{Allow}
 use Rattle.base_model.specs.declared.Allow.the-variants.{Nobody, Bounded}
 use Rattle.base_model.specs.declared.Verdict.the-variants.{Slots, Overlap, EndCovered, Open, Spare, Shut, Wall}
-use Rattle.rule_routes.specs.Edges.{eightSteps}
-use Rattle.rule_routes.proofs.StepLaws.{eight-once}
+use Rattle.rule_routes.specs.Edges.{stepsOf, originalSteps}
 use Rattle.rule_layouts.specs.Inputs.{Inputs, boardOf}
 use Rattle.rule_layouts.specs.Walls.{IsWall}
 use Rattle.rule_calls.specs.Areas.{Work}
@@ -37,7 +37,7 @@ unfoldable clear : (start end : ℕ) → Inputs
 clear a b = lane a b Nobody (replicate 4 0)
 
 unfoldable judgedOn : Inputs → List ℕ → Judgement
-judgedOn i s = judgeCall eightSteps i s (workFor (i .query .window)) .answer
+judgedOn i s = judgeCall originalSteps i s (workFor (i .query .window)) .answer
 
 along : List (Row Judgement)
 along =
@@ -90,11 +90,11 @@ diagonal-ground = refl
 
 -- ---- what the theorems say
 -- of the cut row: it is a wall, and one centre is joined to the start
-walled : IsWall (boardOf eightSteps (clear 0 3)) (1 ∷ []) × HowMany (ComesTo eightSteps (clear 0 3) (1 ∷ [])) 1
+walled : IsWall (boardOf (stepsOf originalSteps) (clear 0 3)) (1 ∷ []) × HowMany (ComesTo originalSteps (clear 0 3) (1 ∷ [])) 1
 unfolding computing driving on lane clear
-walled = let j = judged-right eightSteps eight-once (clear 0 3) (1 ∷ []) (workFor (box 0 0 4 1)) Wall 1 refl in (j .wall .0 refl, j .reached)
+walled = let j = judged-right originalSteps (clear 0 3) (1 ∷ []) (workFor (box 0 0 4 1)) Wall 1 refl in (j .wall .0 refl, j .reached)
 
--- of the whole row, through the C function: no selection leaves more
-never-more : (s : List ℕ) (work : Work) → judgeOn (clear 0 3) s work .answer ≡ 0 → judgeOn (clear 0 3) s work .ground ≤ 4
+-- of the whole row, through the C function: no selection leaves more, by whatever table
+never-more : (table : List ℤ) (s : List ℕ) (work : Work) → judgeOn table (clear 0 3) s work .answer ≡ 0 → judgeOn table (clear 0 3) s work .ground ≤ 4
 unfolding numbering on lane clear
-never-more s work e = judged-right-on (clear 0 3) [] (workFor (box 0 0 4 1)) refl .shrinks s (λ k m. absurd (List·Memᴰ·not-nil m)) work e
+never-more table s work e = judged-right-on originalSteps (clear 0 3) [] (workFor (box 0 0 4 1)) refl .shrinks table s (λ k m. absurd (List·Memᴰ·not-nil m)) work e

@@ -1,4 +1,4 @@
--- A search through the C functions, its return drive, and the search out again with a smaller limit, computed by the checker: the claims are about searches that exist.
+-- A search through the C functions, its return drive, the search by another table, and the search out again with a smaller limit, computed by the checker: the claims are about searches that exist.
 use Prim.Native.Nat.{ℕ}
 use mathlib.Core.Path.{_≡_, refl}
 use mathlib.Core.Logic.{_↔_}
@@ -7,13 +7,16 @@ use native.Mathlib.Omega.{arith}
 use lib.ListN.{replicate}
 use Rattle.base_laws.specs.Lists.{below}
 use Rattle.base_model.specs.declared.Limits.{Limits}
+use Rattle.rule_routes.specs.Edges.{originalSteps}
+use Rattle.rule_routes.proofs.Cases.{diagonalsFirst}
 use Rattle.rule_layouts.specs.Inputs.{exchanged}
 use Rattle.rule_calls.proofs.Drive.{box, limits, workFor, storeFor}
 use Rattle.promise.specs.Longer.{NoSmaller}
-use Rattle.promise.specs.Promise.{Call, reading, inputsIn, limitsIn}
+use Rattle.promise.specs.Promise.{Call, stepping, reading, inputsIn, limitsIn, HasTable}
 use Rattle.walls_numbers.specs.Left.{readOn}
 use Rattle.walls_numbers.proofs.Rows.{numbering}
-use Rattle.promise_c.specs.PromiseOn.{HeldOn, leavesOn, layoutsOn, layoutOn, ListedOn, HasExhaustedOn, answerOn, afterOn, runOn, AlongOn, FaithfulOn, SearchOn, beginsOn, endsOn, pointsTold}
+use Rattle.promise_c.specs.PromiseOn.{HeldOn, leavesOn, layoutsOn, layoutOn, ListedOn, HasExhaustedOn, SameListOn, answerOn, afterOn, runOn, AlongOn, FaithfulOn}
+use Rattle.promise_c.specs.PromiseOn.{SearchOn, beginsOn, endsOn, pointsTold}
 use Rattle.promise_c.specs.LongerOn.{HasStoppedOn, BeginsWithOn}
 use Rattle.promise_c.proofs.KeptOn.{promise-on}
 use Rattle.promise_c.proofs.ExtendedOn.{longer-on}
@@ -29,7 +32,7 @@ listingOn h = map (layoutOn h) (below (layoutsOn h))
 
 -- a name under which all of this unfolds
 unfoldable promisingOn : ℕ
-unfolding numbering exchanged inputsIn limitsIn leavesOn layoutsOn layoutOn HasExhaustedOn answerOn afterOn runOn AlongOn FaithfulOn beginsOn endsOn pointsTold gap stepBy
+unfolding numbering exchanged inputsIn limitsIn HasTable leavesOn layoutsOn layoutOn HasExhaustedOn answerOn afterOn runOn AlongOn FaithfulOn beginsOn endsOn pointsTold gap stepBy
     answers listingOn
 promisingOn = 0
 
@@ -40,7 +43,7 @@ l = limits 10 4
 unfoldable outCalls : List Call
 outCalls = stepBy gap l 1 ∷ reading gap l 0 ∷ stepBy gap (limits 0 4) 1 ∷ stepBy gap l 7 ∷ reading gap l 1 ∷ []
 
-unfoldable out : SearchOn gap l
+unfoldable out : SearchOn originalSteps gap l
 unfolding promisingOn l outCalls
 out = record {
   numbers = replicate 50 9;
@@ -49,8 +52,8 @@ out = record {
   accepted = refl;
   calls = outCalls;
   faithful = (
-    (λ e. (refl, refl)),
-    ((λ e. (refl, refl)), ((λ e. absurd (omega arith)), ((λ e. (refl, refl)), ((λ e. (refl, refl)), tt)))),
+    (λ e. (refl, refl, refl)),
+    ((λ e. (tt, refl, refl)), ((λ e. absurd (omega arith)), ((λ e. (refl, refl, refl)), ((λ e. (tt, refl, refl)), tt)))),
   );
 }
 
@@ -72,7 +75,7 @@ out-points = refl
 unfoldable m : Limits
 m = limits 5 3
 
-unfoldable back : SearchOn (exchanged gap) m
+unfoldable back : SearchOn originalSteps (exchanged gap) m
 unfolding promisingOn m
 back = record {
   numbers = replicate 51 0;
@@ -80,7 +83,7 @@ back = record {
   store = storeFor (exchanged gap) m;
   accepted = refl;
   calls = stepBy (exchanged gap) m 4 ∷ [];
-  faithful = ((λ e. (refl, refl)), tt);
+  faithful = ((λ e. (refl, refl, refl)), tt);
 }
 
 back-exhausted : HasExhaustedOn (endsOn back)
@@ -93,10 +96,29 @@ unfolding promisingOn l m outCalls out back
 listings = (refl, refl)
 
 same-listed : (set : List ℕ) → ListedOn (endsOn out) set ↔ ListedOn (endsOn back) set
-same-listed = promise-on gap l out .return m back out-exhausted back-exhausted
+same-listed = promise-on originalSteps gap l out .return originalSteps m back out-exhausted back-exhausted .sets
+
+-- ---- out by another table: the same walls
+unfoldable slant : SearchOn diagonalsFirst gap m
+unfolding promisingOn m diagonalsFirst
+slant = record {
+  numbers = replicate 50 0;
+  work = workFor (box 0 0 5 3);
+  store = storeFor gap m;
+  accepted = refl;
+  calls = stepping diagonalsFirst gap m 4 (workFor (box 0 0 5 3)) ∷ [];
+  faithful = ((λ e. (refl, refl, refl)), tt);
+}
+
+slant-exhausted : HasExhaustedOn (endsOn slant)
+unfolding promisingOn m diagonalsFirst slant
+slant-exhausted = refl
+
+same-by-both : SameListOn (endsOn out) (endsOn slant)
+same-by-both = promise-on originalSteps gap l out .orders diagonalsFirst m slant out-exhausted slant-exhausted
 
 -- ---- out again, with a result limit of 1: the whole list begins with what it lists
-unfoldable short : SearchOn gap (limits 10 1)
+unfoldable short : SearchOn originalSteps gap (limits 10 1)
 unfolding promisingOn
 short = record {
   numbers = replicate 50 7;
@@ -104,7 +126,7 @@ short = record {
   store = storeFor gap (limits 10 1);
   accepted = refl;
   calls = stepBy gap (limits 10 1) 9 ∷ [];
-  faithful = ((λ e. (refl, refl)), tt);
+  faithful = ((λ e. (refl, refl, refl)), tt);
 }
 
 short-first : (listingOn (endsOn short) ≡ (0 ∷ []) ∷ []) × BeginsWithOn (endsOn out) (endsOn short)

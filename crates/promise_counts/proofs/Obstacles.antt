@@ -24,12 +24,13 @@ use Rattle.ground_baseline.specs.Baseline.{Map, offTerrain, offObstacle, offEdg
 use Rattle.rule_covers.specs.Covers.{oneMore, mayRise, offCentre, changed, coverCall}
 use Rattle.rule_covers.specs.Sessions.{Building, after, Accepted, coverOne}
 use Rattle.rule_covers.proofs.Changes.{accepted-leaves}
-use Rattle.rule_routes.specs.Edges.{Step}
+use Rattle.rule_routes.specs.Edges.{Step, stepsOf}
 use Rattle.rule_layouts.specs.Boards.{Board}
 use Rattle.rule_layouts.specs.Inputs.{boardOf}
 use Rattle.rule_calls.specs.Areas.{Work, laid}
 use Rattle.rule_calls.specs.Checks.{routeChecks}
-use Rattle.rule_calls.specs.Calls.{Preparation, bare, prepareChecks, prepareCall}
+use Rattle.rule_calls.specs.Calls.{Preparation, Prepared, bare, prepareChecks, prepareOver, prepareCall}
+use Rattle.rule_calls.proofs.Tables.{prepare-over, prepare-table}
 use Rattle.promise_counts.specs.Counts.{countBit, asBits, SameZeros}
 use Rattle.promise_counts.specs.Obstacles.{PrepareMarks, Ground, prepared, buildings, AllAccepted, covered, withObstacles, askedWith, CoversAreObstacles}
 use Rattle.promise_counts.proofs.SameCalls.{same-zeros}
@@ -167,49 +168,55 @@ module _ (steps : List Step) (q : Preparation) (area : List ℕ) (work : Work) w
   ground = boardOf steps (bare q marksOf)
 
   left-by : (o p : Option Said) → first (prepareChecks q area work) ≡ o → first (routeChecks ground (ground .block)) ≡ p
-      → prepareCall steps q area work .answer ≡ none → prepareCall steps q area work .baseline ≡ laid (centres (q .window)) marksOf area
-  unfolding prepareCall
-  left-by none none e f a = rw (prepareCall, e, f) refl
-  left-by none (some s) e f a = absurd (Option·none-ne-some s (sym (rw (prepareCall, e, f) at a)))
-  left-by (some s) p e f a = absurd (Option·none-ne-some s (sym (rw (prepareCall, e) at a)))
+      → prepareOver steps q area work .answer ≡ none → prepareOver steps q area work .baseline ≡ laid (centres (q .window)) marksOf area
+  unfolding prepareOver
+  left-by none none e f a = rw (prepareOver, e, f) refl
+  left-by none (some s) e f a = absurd (Option·none-ne-some s (sym (rw (prepareOver, e, f) at a)))
+  left-by (some s) p e f a = absurd (Option·none-ne-some s (sym (rw (prepareOver, e) at a)))
 
-  prepare-leaves : prepareCall steps q area work .answer ≡ none → prepareCall steps q area work .baseline ≡ laid (centres (q .window)) marksOf area
-  prepare-leaves a = left-by (first (prepareChecks q area work)) (first (routeChecks ground (ground .block))) refl refl a
+prepare-leaves : (table : List ℤ) (q : Preparation) (area : List ℕ) (work : Work) → prepareCall table q area work .answer ≡ none
+    → prepareCall table q area work .baseline ≡ laid (centres (q .window)) (baselineOf (q .map) (rectsOf (q .obstacles)) (q .mover) (q .window)) area
+prepare-leaves table q area work a =
+    let steps = stepsOf table in
+    let g = ground steps q area work in
+    let same = prepare-over table (prepare-table table q area work a) q area work in
+    ap (λ (x : Prepared). x .baseline) same
+    ∙ left-by steps q area work (first (prepareChecks q area work)) (first (routeChecks g (g .block))) refl refl (sym (ap (λ (x : Prepared). x .answer) same) ∙ a)
 
 pub prepare-marks : PrepareMarks
 unfolding PrepareMarks
-prepare-marks steps q area work a =
+prepare-marks table q area work a =
     let w = q .window in
     let obstacles = rectsOf (q .obstacles) in
-    let e = ap (take (centres w)) (prepare-leaves steps q area work a) ∙ laid-taken (q .map) (q .mover) w obstacles area in
+    let e = ap (take (centres w)) (prepare-leaves table q area work a) ∙ laid-taken (q .map) (q .mover) w obstacles area in
     ap asBits e ∙ marks-bits (q .map) (q .mover) w obstacles ∙ sym e
 
-module _ (steps : List Step) (rs : List Rect) where
-  same-bits : (g : Ground) → AllAccepted steps rs g → asBits (covered steps rs g) ≡ asBits (withObstacles rs g)
+module _ (table : List ℤ) (rs : List Rect) where
+  same-bits : (g : Ground) → AllAccepted table rs g → asBits (covered table rs g) ≡ asBits (withObstacles rs g)
   unfolding prepared buildings covered withObstacles
   same-bits g a =
       let q = g .asked in
       let obstacles = rectsOf (q .obstacles) in
-      covers-bits (q .map) (q .mover) (q .window) (g .area) rs obstacles (markAt (q .map) (q .mover) (q .window) obstacles) (prepareCall steps q (g .area) (g .work) .baseline)
-      (prepare-leaves steps q (g .area) (g .work) (a .atFirst) ∙ laid-marks (q .map) (q .mover) (q .window) obstacles (g .area))
+      covers-bits (q .map) (q .mover) (q .window) (g .area) rs obstacles (markAt (q .map) (q .mover) (q .window) obstacles) (prepareCall table q (g .area) (g .work) .baseline)
+      (prepare-leaves table q (g .area) (g .work) (a .atFirst) ∙ laid-marks (q .map) (q .mover) (q .window) obstacles (g .area))
       (mark-bit (q .map) (q .mover) (q .window) obstacles) (a .covers)
       ∙ sym (laid-bits (q .map) (q .mover) (q .window) (rs ++ obstacles) (g .area))
 
   same-prepared : (g : Ground) (obstacles : List ℤ) (work : Work) → rectsOf obstacles ≡ rs ++ rectsOf (g .asked .obstacles)
-      → prepareCall steps (askedWith obstacles (g .asked)) (g .area) work .answer ≡ none
-      → withObstacles rs g ≡ prepareCall steps (askedWith obstacles (g .asked)) (g .area) work .baseline
+      → prepareCall table (askedWith obstacles (g .asked)) (g .area) work .answer ≡ none
+      → withObstacles rs g ≡ prepareCall table (askedWith obstacles (g .asked)) (g .area) work .baseline
   unfolding withObstacles askedWith
   same-prepared g obstacles work e a =
       let q = g .asked in
       let w = q .window in
       ap (λ (l : List Rect). laid (centres w) (baselineOf (q .map) l (q .mover) w) (g .area)) (sym e)
-      ∙ sym (prepare-leaves steps (askedWith obstacles q) (g .area) work a)
+      ∙ sym (prepare-leaves table (askedWith obstacles q) (g .area) work a)
 
-pub covers-are-obstacles : (steps : List Step) (rs : List Rect) → CoversAreObstacles steps rs
+pub covers-are-obstacles : (table : List ℤ) (rs : List Rect) → CoversAreObstacles table rs
 unfolding SameZeros
-covers-are-obstacles steps rs = record {
-  areas = same-bits steps rs;
-  asPrepared = λ g obstacles work a e b. same-bits steps rs g a ∙ ap asBits (same-prepared steps rs g obstacles work e b);
-  calls = λ i block allow a b. same-zeros steps i _ _ _ _ (same-bits steps rs block a) (same-bits steps rs allow b);
-  blockedAlone = λ i block allow a. same-zeros steps i _ _ allow allow (same-bits steps rs block a) refl;
+covers-are-obstacles table rs = record {
+  areas = same-bits table rs;
+  asPrepared = λ g obstacles work a e b. same-bits table rs g a ∙ ap asBits (same-prepared table rs g obstacles work e b);
+  calls = λ i block allow a b. same-zeros table i _ _ _ _ (same-bits table rs block a) (same-bits table rs allow b);
+  blockedAlone = λ i block allow a. same-zeros table i _ _ allow allow (same-bits table rs block a) refl;
 }

@@ -2,10 +2,11 @@
 -- baselines' lengths; no other check, nor anything that is laid out, looks at a baseline.
 use Prim.Native.Nat.{ℕ, zero, suc}
 use mathlib.Core.Path.{_≡_, refl, sym, ap, ap₂, _∙_, fun-ext}
-use mathlib.Core.Bool.{Bool, true, not, _&&_}
+use mathlib.Core.Bool.{Bool, true, false, not, _&&_}
 use mathlib.Core.Option.{Option, none, some}
 use mathlib.Core.List.{List, _++_}
 use lib.Dec.{leb, eqb, eqb·suc-zero}
+use lib.IntN.{ℤ}
 use lib.ListN.{length, getD, length-map, List·getD-map}
 use Rattle.base_model.specs.Answers.{Said, first}
 use Rattle.base_model.specs.declared.Rect.{Rect}
@@ -16,12 +17,12 @@ use Rattle.base_model.specs.declared.Allow.the-variants.{Nobody, Bounded}
 use Rattle.base_model.specs.declared.Limits.{Limits}
 use Rattle.base_model.specs.declared.Record.{Record}
 use Rattle.ground_rects.specs.Windows.{centres}
-use Rattle.rule_routes.specs.Edges.{Step}
+use Rattle.rule_routes.specs.Edges.{Step, stepsOf, tableFits}
 use Rattle.rule_layouts.specs.Inputs.{Inputs, moverOf, allowedOf, boardOf}
 use Rattle.rule_calls.specs.Areas.{Work, Store, pointsLength, storeFits, basesFit, storeOf}
 use Rattle.rule_calls.specs.Checks.{groupChecks, moversSmall, placeChecks, queryChecks}
 use Rattle.rule_calls.specs.RecordCheck.{routesFit, stoodOn, listFits, recordFits}
-use Rattle.rule_calls.specs.Calls.{beginChecks, bothRoutes, beginCall, planOf, stepChecks, stepCall, readChecks, readCall, judgeChecks, judgeCall}
+use Rattle.rule_calls.specs.Calls.{beginChecks, bothRoutes, beginOver, beginCall, planOf, stepChecks, stepOver, stepCall, readChecks, readCall, judgeChecks, judgeOver, judgeCall}
 use Rattle.promise_counts.specs.Counts.{countBit, asBits, withBases, onBits, SameCalls, CountsAsBits, SameZeros}
 
 -- ---- a count
@@ -69,6 +70,10 @@ pub settled : {A : Type 0} {o p : Option Said} {f g : Said → A} {x y : A} → 
 settled {p = none} e h k = rw e k
 settled {p = some s} e h k = rw e (h s)
 
+-- the same before, and what follows where a test passes the same
+if-fits : {A : Type 0} (b : Bool) (x : A) {y z : A} → y ≡ z → _≡_ {A = A} (elim b [ false ↦ x | true ↦ y ]) (elim b [ false ↦ x | true ↦ z ])
+if-fits {A} b x e = ap (λ (o : A). elim b [ false ↦ x | true ↦ o ]) e
+
 module _ (i : Inputs) where
   pub query-same : (long : Bool) → queryChecks (onBits i) long ≡ queryChecks i long
   unfolding onBits withBases queryChecks moversSmall
@@ -99,32 +104,46 @@ module _ (i : Inputs) where
     unfolding onBits withBases planOf
     plan-same l = rw (board-same steps i)
 
-    begin-same : (l : Limits) (work : Work) (store : Store) → beginCall steps (onBits i) l work store ≡ beginCall steps i l work store
-    unfolding onBits withBases beginCall storeOf pointsLength
-    begin-same l work store = settled (ap first (begin-asks l work store)) (λ e. refl) (settled (ap first routes-ask) (λ e. refl) refl)
+    begin-over : (l : Limits) (work : Work) (store : Store) → beginOver steps (onBits i) l work store ≡ beginOver steps i l work store
+    unfolding onBits withBases beginOver storeOf pointsLength
+    begin-over l work store = settled (ap first (begin-asks l work store)) (λ e. refl) (settled (ap first routes-ask) (λ e. refl) refl)
 
-    step-same : (l : Limits) (r : Record) (n : ℕ) (work : Work) (store : Store) → stepCall steps (onBits i) l r n work store ≡ stepCall steps i l r n work store
-    unfolding onBits withBases stepCall storeOf pointsLength
-    step-same l r n work store = settled (ap first (step-asks l r work store)) (λ e. refl) (rw plan-same)
+    step-over : (l : Limits) (r : Record) (n : ℕ) (work : Work) (store : Store) → stepOver steps (onBits i) l r n work store ≡ stepOver steps i l r n work store
+    unfolding onBits withBases stepOver storeOf pointsLength
+    step-over l r n work store = settled (ap first (step-asks l r work store)) (λ e. refl) (rw plan-same)
 
-    read-same : (l : Limits) (r : Record) (k : ℕ) (store : Store) → readCall (onBits i) l r k store ≡ readCall i l r k store
-    unfolding readCall
-    read-same l r k store = settled (ap first (read-asks l r k store)) (λ e. refl) refl
+    judge-over : (s : List ℕ) (work : Work) → judgeOver steps (onBits i) s work ≡ judgeOver steps i s work
+    unfolding onBits withBases judgeOver
+    judge-over s work = settled (ap first (judge-asks s work)) (λ e. refl) (rw board-same)
 
-    judge-same : (s : List ℕ) (work : Work) → judgeCall steps (onBits i) s work ≡ judgeCall steps i s work
-    unfolding onBits withBases judgeCall
-    judge-same s work = settled (ap first (judge-asks s work)) (λ e. refl) (rw board-same)
+  -- a table that does not fit is refused over both
+  module _ (table : List ℤ) where
+    begin-same : (l : Limits) (work : Work) (store : Store) → beginCall table (onBits i) l work store ≡ beginCall table i l work store
+    unfolding beginCall
+    begin-same l work store = if-fits (tableFits table) _ (begin-over (stepsOf table) l work store)
+
+    step-same : (l : Limits) (r : Record) (n : ℕ) (work : Work) (store : Store) → stepCall table (onBits i) l r n work store ≡ stepCall table i l r n work store
+    unfolding stepCall
+    step-same l r n work store = if-fits (tableFits table) _ (step-over (stepsOf table) l r n work store)
+
+    judge-same : (s : List ℕ) (work : Work) → judgeCall table (onBits i) s work ≡ judgeCall table i s work
+    unfolding judgeCall
+    judge-same s work = if-fits (tableFits table) _ (judge-over (stepsOf table) s work)
+
+  read-same : (l : Limits) (r : Record) (k : ℕ) (store : Store) → readCall (onBits i) l r k store ≡ readCall i l r k store
+  unfolding readCall
+  read-same l r k store = settled (ap first (read-asks l r k store)) (λ e. refl) refl
 
 pub counts-as-bits : CountsAsBits
 unfolding CountsAsBits
-counts-as-bits steps i = record { begin = begin-same i steps; step = step-same i steps; read = read-same i steps; judge = judge-same i steps }
+counts-as-bits table i = record { begin = begin-same i table; step = step-same i table; read = read-same i; judge = judge-same i table }
 
 pub same-zeros : SameZeros
 unfolding SameZeros CountsAsBits onBits withBases
-same-zeros steps i block block′ allow allow′ e f =
-    let one = counts-as-bits steps (withBases i block allow) in
-    let other : SameCalls steps (withBases i (asBits block) (asBits allow)) (withBases i block′ allow′) =
-    rw (e, f) (counts-as-bits steps (withBases i block′ allow′))
+same-zeros table i block block′ allow allow′ e f =
+    let one = counts-as-bits table (withBases i block allow) in
+    let other : SameCalls table (withBases i (asBits block) (asBits allow)) (withBases i block′ allow′) =
+    rw (e, f) (counts-as-bits table (withBases i block′ allow′))
     in
     record {
       begin = λ l work store. sym (one .begin l work store) ∙ other .begin l work store;

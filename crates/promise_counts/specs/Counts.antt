@@ -2,9 +2,9 @@
 use Prim.Native.Nat.{ℕ, zero, suc}
 use mathlib.Core.Path.{_≡_}
 use mathlib.Core.List.{List, map}
+use lib.IntN.{ℤ}
 use Rattle.base_model.specs.declared.Limits.{Limits}
 use Rattle.base_model.specs.declared.Record.{Record}
-use Rattle.rule_routes.specs.Edges.{Step}
 use Rattle.rule_layouts.specs.Inputs.{Inputs}
 use Rattle.rule_calls.specs.Areas.{Work, Store}
 use Rattle.rule_calls.specs.Calls.{beginCall, stepCall, readCall, judgeCall}
@@ -26,18 +26,18 @@ unfoldable pub onBits : Inputs → Inputs
 onBits i = withBases i (asBits (i .blockBase)) (asBits (i .allowBase))
 
 -- Whatever is lent and handed on, a call over the one answers and leaves exactly what it does over the other: answer, record, areas, points, verdict and ground.
-pub record SameCalls (steps : List Step) (i j : Inputs) : Type 0 where
-  pub begin : (l : Limits) (work : Work) (store : Store) → beginCall steps i l work store ≡ beginCall steps j l work store
-  pub step : (l : Limits) (r : Record) (n : ℕ) (work : Work) (store : Store) → stepCall steps i l r n work store ≡ stepCall steps j l r n work store
+pub record SameCalls (table : List ℤ) (i j : Inputs) : Type 0 where
+  pub begin : (l : Limits) (work : Work) (store : Store) → beginCall table i l work store ≡ beginCall table j l work store
+  pub step : (l : Limits) (r : Record) (n : ℕ) (work : Work) (store : Store) → stepCall table i l r n work store ≡ stepCall table j l r n work store
   pub read : (l : Limits) (r : Record) (k : ℕ) (store : Store) → readCall i l r k store ≡ readCall j l r k store
-  pub judge : (s : List ℕ) (work : Work) → judgeCall steps i s work ≡ judgeCall steps j s work
+  pub judge : (s : List ℕ) (work : Work) → judgeCall table i s work ≡ judgeCall table j s work
 
 -- a search over counts is the search over their 0 and 1
 unfoldable pub CountsAsBits : Type 0
-CountsAsBits = (steps : List Step) (i : Inputs) → SameCalls steps (onBits i) i
+CountsAsBits = (table : List ℤ) (i : Inputs) → SameCalls table (onBits i) i
 
 -- so it is with any two baselines for each mover that are as long and zero at the same places
 unfoldable pub SameZeros : Type 0
 SameZeros =
-    (steps : List Step) (i : Inputs) (block block′ allow allow′ : List ℕ) → asBits block ≡ asBits block′ → asBits allow ≡ asBits allow′
-    → SameCalls steps (withBases i block allow) (withBases i block′ allow′)
+    (table : List ℤ) (i : Inputs) (block block′ allow allow′ : List ℕ) → asBits block ≡ asBits block′ → asBits allow ≡ asBits allow′
+    → SameCalls table (withBases i block allow) (withBases i block′ allow′)

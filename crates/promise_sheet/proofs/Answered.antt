@@ -7,13 +7,12 @@ use mathlib.Core.List.{List, [], _∷_, _++_}
 use native.Mathlib.Omega.{arith}
 use Rattle.base_model.specs.Answers.{Said}
 use Rattle.base_model.specs.declared.Limits.{Limits}
-use Rattle.rule_routes.specs.Edges.{eightSteps}
-use Rattle.rule_routes.proofs.StepLaws.{eight-once}
+use Rattle.rule_routes.specs.Edges.{originalSteps}
 use Rattle.rule_layouts.specs.Inputs.{Inputs}
 use Rattle.rule_calls.specs.Areas.{Work, Store, pointsOf}
 use Rattle.rule_calls.specs.Calls.{Prepared, prepareCall, After, beginCall, stepCall}
-use Rattle.rule_calls.proofs.StepLaws.{begin-accepted}
-use Rattle.promise.specs.Promise.{stepping, inputsIn, limitsIn, Held, layoutAt, leaves, answerTo, after, run, Along, Faithful, Search, begins, ends}
+use Rattle.rule_calls.proofs.Tables.{call-begin-accepted}
+use Rattle.promise.specs.Promise.{stepping, inputsIn, limitsIn, HasTable, Held, layoutAt, leaves, answerTo, after, run, Along, Faithful, Search, begins, ends}
 use Rattle.promise.specs.Longer.{NoSmaller, HasStopped, routeAt, StopsInTime}
 use Rattle.promise.proofs.Extended.{longer, stops-in-time}
 use Rattle.sheet_form.specs.Sheets.{Sheet}
@@ -33,66 +32,66 @@ held-parts h = result-parts (h .rec) (h .store)
 -- ---- one search: begun, and stepped once by its state limit
 module _ (i : Inputs) (l : Limits) (work : Work) (store : Store) where
   abbrev begun-by : After
-  begun-by = beginCall eightSteps i l work store
+  begun-by = beginCall originalSteps i l work store
 
   abbrev stepped-by : After
-  stepped-by = stepCall eightSteps i l (begun-by .rec) (l .states) (begun-by .work) (begun-by .store)
+  stepped-by = stepCall originalSteps i l (begun-by .rec) (l .states) (begun-by .work) (begun-by .store)
 
-  refused-by : (r : Said) → begun-by .answer ≡ some r → stepText eightSteps i l begun-by ≡ refusalText r
+  refused-by : (r : Said) → begun-by .answer ≡ some r → stepText originalSteps i l begun-by ≡ refusalText r
   unfolding stepText
   refused-by r e = rw (stepText, e) refl
 
   module _ (taken : begun-by .answer ≡ none) where
-    one-step : Search eightSteps i l
-    unfolding Along Faithful inputsIn limitsIn
+    one-step : Search originalSteps i l
+    unfolding Along Faithful HasTable inputsIn limitsIn
     one-step = record {
       work = work;
       store = store;
       accepted = taken;
-      calls = stepping i l (l .states) (begun-by .work) ∷ [];
-      faithful = ((λ e. (refl, refl)), tt);
+      calls = stepping originalSteps i l (l .states) (begun-by .work) ∷ [];
+      faithful = ((λ e. (refl, refl, refl)), tt);
     }
 
-    one-ends : ends eightSteps one-step ≡ leaves stepped-by
+    one-ends : ends originalSteps one-step ≡ leaves stepped-by
     unfolding ends begins run after leaves one-step
     one-ends = refl
 
     -- begun and not yet stepped
-    not-stepped : Search eightSteps i l
+    not-stepped : Search originalSteps i l
     unfolding Along
     not-stepped = record { work = work; store = store; accepted = taken; calls = []; faithful = tt }
 
     one-stops : HasStopped (leaves stepped-by)
     unfolding StopsInTime not-stepped ends begins run answerTo after leaves
     one-stops =
-        stops-in-time eightSteps eight-once i not-stepped (l .states) (begun-by .work) (omega arith) (begin-accepted eightSteps eight-once i l work store taken (l .states))
+        stops-in-time originalSteps i not-stepped (l .states) (begun-by .work) (omega arith) (call-begin-accepted originalSteps i l work store taken (l .states))
 
-    one-tells : Tells (stepText eightSteps i l begun-by) (ends eightSteps one-step)
+    one-tells : Tells (stepText originalSteps i l begun-by) (ends originalSteps one-step)
     unfolding stepText leaves
     one-tells = record {
       stopped = subst HasStopped (sym one-ends) one-stops;
       text = told ∙ held-parts (leaves stepped-by) ∙ ap (λ (h : Held). resultLine h ++ layoutLines h) (sym one-ends);
     }
       where
-        told : stepText eightSteps i l begun-by ≡ resultText (stepped-by .rec) (stepped-by .store)
-        told = rw (stepText, taken, begin-accepted eightSteps eight-once i l work store taken (l .states)) refl
+        told : stepText originalSteps i l begun-by ≡ resultText (stepped-by .rec) (stepped-by .store)
+        told = rw (stepText, taken, call-begin-accepted originalSteps i l work store taken (l .states)) refl
 
 -- ---- two searches over the same inputs
 module _ (l m : Limits) (n : NoSmaller l m) where
   longer-step : (i : Inputs) (work : Work) (store : Store)
-      → LongerAnswer (stepText eightSteps i l (beginCall eightSteps i l work store)) (stepText eightSteps i m (beginCall eightSteps i m work store))
-  longer-step i work store = go (beginCall eightSteps i l work store .answer) refl (beginCall eightSteps i m work store .answer) refl
+      → LongerAnswer (stepText originalSteps i l (beginCall originalSteps i l work store)) (stepText originalSteps i m (beginCall originalSteps i m work store))
+  longer-step i work store = go (beginCall originalSteps i l work store .answer) refl (beginCall originalSteps i m work store .answer) refl
     where
-      go : (o : Option Said) → beginCall eightSteps i l work store .answer ≡ o → (q : Option Said) → beginCall eightSteps i m work store .answer ≡ q
-          → LongerAnswer (stepText eightSteps i l (beginCall eightSteps i l work store)) (stepText eightSteps i m (beginCall eightSteps i m work store))
+      go : (o : Option Said) → beginCall originalSteps i l work store .answer ≡ o → (q : Option Said) → beginCall originalSteps i m work store .answer ≡ q
+          → LongerAnswer (stepText originalSteps i l (beginCall originalSteps i l work store)) (stepText originalSteps i m (beginCall originalSteps i m work store))
       go (some r) e q f = refused r (refused-by i l work store r e)
       go none e (some r) f = refusedLater r (refused-by i m work store r f)
       go none e none f =
           let s = one-step i l work store e in
           let t = one-step i m work store f in
           let told = one-tells i m work store f in
-          let b = longer eightSteps eight-once i s t .extends n (told .stopped) in
-          let rest = more-lines (ends eightSteps t) (ends eightSteps s) b in
+          let b = longer originalSteps i s t .extends n (told .stopped) in
+          let rest = more-lines (ends originalSteps t) (ends originalSteps s) b in
           lengthened (record {
             inputs = i;
             limits = l;
@@ -112,29 +111,29 @@ module _ (s : Sheet) (limits : List ℕ) (n : NoSmaller (limitsOf s) (limitsOf (
   t = withLimits s limits
 
   longer-search : (blockBase allowBase : List ℕ) (work : Work)
-      → LongerAnswer (searchText eightSteps s blockBase allowBase work) (searchText eightSteps t blockBase allowBase work)
+      → LongerAnswer (searchText originalSteps s blockBase allowBase work) (searchText originalSteps t blockBase allowBase work)
   unfolding searchText inputsFor queryOf startOf endOf withLimits
   longer-search blockBase allowBase work = longer-step (limitsOf s) (limitsOf t) n (inputsFor s blockBase allowBase) work noStore
 
   longer-allow : (movers : List (List ℕ)) (blockBase : List ℕ) (work : Work)
-      → LongerAnswer (allowText eightSteps s movers blockBase work) (allowText eightSteps t movers blockBase work)
+      → LongerAnswer (allowText originalSteps s movers blockBase work) (allowText originalSteps t movers blockBase work)
   unfolding allowText preparationOf startOf endOf withLimits
   longer-allow [] blockBase work = longer-search blockBase noBytes work
-  longer-allow (m ∷ ms) blockBase work = let p = prepareCall eightSteps (preparationOf s m) noBytes work in go p (p .answer)
+  longer-allow (m ∷ ms) blockBase work = let p = prepareCall originalSteps (preparationOf s m) noBytes work in go p (p .answer)
     where
       go : (p : Prepared) (o : Option Said)
-          → LongerAnswer (elim o [ some r ↦ refusalText r | none ↦ searchText eightSteps s blockBase (p .baseline) (p .work) ])
-          (elim o [ some r ↦ refusalText r | none ↦ searchText eightSteps t blockBase (p .baseline) (p .work) ])
+          → LongerAnswer (elim o [ some r ↦ refusalText r | none ↦ searchText originalSteps s blockBase (p .baseline) (p .work) ])
+          (elim o [ some r ↦ refusalText r | none ↦ searchText originalSteps t blockBase (p .baseline) (p .work) ])
       go p (some r) = refused r refl
       go p none = longer-search blockBase (p .baseline) (p .work)
 
-  pub longer-drive : LongerAnswer (driveText eightSteps s) (driveText eightSteps t)
+  pub longer-drive : LongerAnswer (driveText originalSteps s) (driveText originalSteps t)
   unfolding driveText preparationOf startOf endOf withLimits
-  longer-drive = let p = prepareCall eightSteps (preparationOf s (s .block)) noBytes noWork in go p (p .answer)
+  longer-drive = let p = prepareCall originalSteps (preparationOf s (s .block)) noBytes noWork in go p (p .answer)
     where
       go : (p : Prepared) (o : Option Said)
-          → LongerAnswer (elim o [ some r ↦ refusalText r | none ↦ allowText eightSteps s (s .allow) (p .baseline) (p .work) ])
-          (elim o [ some r ↦ refusalText r | none ↦ allowText eightSteps t (s .allow) (p .baseline) (p .work) ])
+          → LongerAnswer (elim o [ some r ↦ refusalText r | none ↦ allowText originalSteps s (s .allow) (p .baseline) (p .work) ])
+          (elim o [ some r ↦ refusalText r | none ↦ allowText originalSteps t (s .allow) (p .baseline) (p .work) ])
       go p (some r) = refused r refl
       go p none = longer-allow (s .allow) (p .baseline) (p .work)
 
@@ -143,5 +142,5 @@ pub longer-answers : LongerAnswers
 unfolding LongerAnswers
 longer-answers s limits n text raised a b x y f g =
     let t = withLimits s limits in
-    subst (λ (z : List ℕ). LongerAnswer z y) (answer-one text (driveText eightSteps s) x (driven s a) f)
-    (subst (LongerAnswer (driveText eightSteps s)) (answer-one raised (driveText eightSteps t) y (driven t b) g) (longer-drive s limits n))
+    subst (λ (z : List ℕ). LongerAnswer z y) (answer-one text (driveText originalSteps s) x (driven s a) f)
+    (subst (LongerAnswer (driveText originalSteps s)) (answer-one raised (driveText originalSteps t) y (driven t b) g) (longer-drive s limits n))

@@ -3,7 +3,7 @@ use Prim.Native.Nat.{ℕ}
 use mathlib.Core.Path.{_≡_, refl}
 use mathlib.Core.List.{List, [], _∷_, _++_}
 use native.Mathlib.Omega.{arith}
-use Rattle.rule_routes.specs.Edges.{eightSteps}
+use Rattle.rule_routes.specs.Edges.{originalSteps}
 use Rattle.text_forms.specs.Patterns.{bytes}
 use Rattle.promise.specs.Longer.{NoSmaller}
 use Rattle.sheet_form.specs.Sheets.{Sheet, sheet, withinCaps, Accepted}
@@ -18,7 +18,7 @@ oneWall = withLimits P (100 ∷ 1 ∷ [])
 unfoldable threeSets : Sheet
 threeSets = withLimits P (3 ∷ 32 ∷ [])
 
-answers : driveText eightSteps oneWall ∷ driveText eightSteps threeSets ∷ driveText eightSteps P ∷ driveText eightSteps (withLimits P (100 ∷ 33 ∷ [])) ∷ []
+answers : driveText originalSteps oneWall ∷ driveText originalSteps threeSets ∷ driveText originalSteps P ∷ driveText originalSteps (withLimits P (100 ∷ 33 ∷ [])) ∷ []
     ≡ bytes "(result ResultLimit 2 3 1)\n(layout 0 (0) ())\n"
     ∷ bytes "(result StateLimit 3 3 1)\n(layout 0 (0) ())\n"
     ∷ bytes "(result Exhausted 4 3 2)\n(layout 0 (0) ())\n(layout 1 (1 2) ())\n"
@@ -51,8 +51,8 @@ accepted-one : Accepted textOne oneWall
 unfolding P withLimits oneWall driving withinCaps
 accepted-one = record { short = refl; fits = fits-one; spelled = refl; capped = refl }
 
-texts-longer : LongerAnswer (driveText eightSteps oneWall) (driveText eightSteps P)
+texts-longer : LongerAnswer (driveText originalSteps oneWall) (driveText originalSteps P)
 unfolding P withLimits oneWall driving NoSmaller LongerAnswers
 texts-longer =
-    longer-answers oneWall (100 ∷ 32 ∷ []) (omega arith, omega arith) textOne textP accepted-one accepted-P (driveText eightSteps oneWall) (driveText eightSteps P)
+    longer-answers oneWall (100 ∷ 32 ∷ []) (omega arith, omega arith) textOne textP accepted-one accepted-P (driveText originalSteps oneWall) (driveText originalSteps P)
     (driven oneWall accepted-one) (driven P accepted-P)

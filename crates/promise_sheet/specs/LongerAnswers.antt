@@ -6,7 +6,7 @@ use mathlib.Core.List.{List, _++_, map}
 use Rattle.base_laws.specs.Lists.{below, flat}
 use Rattle.base_model.specs.Answers.{Said}
 use Rattle.base_model.specs.declared.Limits.{Limits}
-use Rattle.rule_routes.specs.Edges.{eightSteps}
+use Rattle.rule_routes.specs.Edges.{originalSteps}
 use Rattle.rule_layouts.specs.Inputs.{Inputs}
 use Rattle.rule_calls.specs.Areas.{positions}
 use Rattle.promise.specs.Promise.{Held, layoutAt, Search, ends}
@@ -48,13 +48,13 @@ pub record Lengthened (first second : List ℕ) : Type 0 where
   pub inputs : Inputs
   pub limits : Limits
   pub raised : Limits
-  pub earlier : Search eightSteps inputs limits
-  pub later : Search eightSteps inputs raised
-  pub told : Tells first (ends eightSteps earlier)
-  pub toldLater : Tells second (ends eightSteps later)
-  pub extended : BeginsWith (ends eightSteps later) (ends eightSteps earlier)
+  pub earlier : Search originalSteps inputs limits
+  pub later : Search originalSteps inputs raised
+  pub told : Tells first (ends originalSteps earlier)
+  pub toldLater : Tells second (ends originalSteps later)
+  pub extended : BeginsWith (ends originalSteps later) (ends originalSteps earlier)
   pub more : List ℕ
-  pub lines : layoutLines (ends eightSteps later) ≡ layoutLines (ends eightSteps earlier) ++ more
+  pub lines : layoutLines (ends originalSteps later) ≡ layoutLines (ends originalSteps earlier) ++ more
 
 -- a refusal, or both are results
 pub data LongerAnswer (first second : List ℕ) : Type 0 where

@@ -1,4 +1,3 @@
-pub mod Order
 pub mod Turns
 pub mod Clears
 pub mod Simulation

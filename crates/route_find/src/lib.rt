@@ -4,19 +4,10 @@ ghost use Prim.Native.Nat.{ℕ, _+_, _*_};
 ghost use mathlib.Core.Bool.{Bool, true};
 ghost use lib.IntN.{pos, natAbs, _-ℤ_};
 ghost use lib.Signed.{leZ};
-ghost use Rattle.rule_routes.specs.Edges.{stepsOf, eightSteps, windowEdges};
+ghost use Rattle.rule_routes.specs.Edges.{stepsOf, windowEdges};
 ghost use Rattle.rule_routes.specs.Routes as routes;
 ghost use Rattle.route_find.specs.Ground.{openIn, Window, InWindow};
 ghost use Rattle.route_find.specs.Results.{SearchLent, LentAll, StopsAt, SearchLeft, SearchFound, RouteFound, SearchRestored};
-
-// The order of steps of the original: x, y pairs.
-pub const STEPS: [i32; 16] = [1, 0, 0, 1, -1, 0, 0, -1, 1, 1, -1, 1, -1, -1, 1, -1];
-
-pub fn original_steps() -> [i32; 16]
-    ensures { λ r. ⌜ stepsOf r ≡ eightSteps ⌝ }
-{
-    STEPS
-}
 
 // How far `at` lies past `from`.
 fn offset(at: u32, from: i32) -> usize

@@ -1,35 +1,16 @@
 -- The invariant of a centre's turn over the step table, and that each step keeps it: trying the steps left comes to trying the whole steps.
 use mathlib.Core.Path.{_≡_, refl, sym, ap, _∙_}
 use mathlib.Core.List.{List, [], _∷_}
-use Prim.Native.Nat.{ℕ, suc, _+_, _*_, _≤_, _<_}
+use Prim.Native.Nat.{ℕ, _+_, _*_, _≤_, _<_}
 use native.Mathlib.Omega.{arith}
 use lib.IntN.{ℤ, pos}
 use lib.ListN.{length, getD, drop, length-drop}
-use lib.Seq.{drop-cons}
 use Rattle.rule_routes.specs.Edges.{Step, stepBy, stepsOf}
+use Rattle.rule_routes.proofs.StepLaws.{steps-cons, steps-few}
 use Rattle.route_step.specs.Areas.{Area, SearchRoom, tried}
 use Rattle.route_step.specs.Ground.{leads}
 use Rattle.route_step.proofs.Steps.{leads-nil, leads-cons, leads-below}
 use Rattle.route_step.proofs.Marks.{tried-none, tried-append, tried-lengths, tried-room}
-
--- the table from entry k on begins with one step, or has none left
-steps-cons : (steps : List ℤ) (k : ℕ) → k + 1 < length steps
-    → stepsOf (drop k steps) ≡ stepBy (getD steps k (pos 0)) (getD steps (k + 1) (pos 0)) ∷ stepsOf (drop (k + 2) steps)
-unfolding stepsOf
-steps-cons steps k h =
-    let one : suc k ≡ k + 1 = omega arith in
-    let two : suc (k + 1) ≡ k + 2 = omega arith in
-    ap stepsOf
-    (drop-cons steps k (pos 0) (omega arith)
-    ∙ ap (λ (n : ℕ). getD steps k (pos 0) ∷ drop n steps) one
-    ∙ ap (λ (l : List ℤ). getD steps k (pos 0) ∷ l) (drop-cons steps (k + 1) (pos 0) (omega arith))
-    ∙ ap (λ (n : ℕ). getD steps k (pos 0) ∷ getD steps (k + 1) (pos 0) ∷ drop n steps) two)
-
-steps-few : (l : List ℤ) → length l ≤ 1 → stepsOf l ≡ []
-unfolding stepsOf
-steps-few [] h = refl
-steps-few (x ∷ []) h = refl
-steps-few (x ∷ y ∷ l) h = absurd (omega arith)
 
 module _ (cells : List ℕ) (width height : ℕ) (steps : List ℤ) (u : ℕ) (x y : ℤ) (a₀ : Area) where
   pub record Expanding (a : Area) (k : ℕ) : Type 0 where

@@ -12,7 +12,7 @@ use Rattle.base_model.specs.declared.Bounds.{Bounds}
 use Rattle.base_model.specs.declared.Allow.the-variants.{Nobody, Bounded}
 use Rattle.ground_rects.specs.Rects.{rect}
 use Rattle.ground_rects.specs.Windows.{centres}
-use Rattle.rule_routes.specs.Edges.{eightSteps}
+use Rattle.rule_routes.specs.Edges.{originalSteps}
 use Rattle.rule_search.specs.Frames.{begun}
 use Rattle.rule_calls.specs.Areas.{Work, Store, workIn, storeIn, recordOf}
 use Rattle.rule_calls.specs.Checks.{placeChecks, limitChecks}
@@ -57,7 +57,7 @@ obstacle-bounds = refl
 
 -- the whole call on a map of so many cells each way, with areas for the window, both ends on one corner
 pub windowed : (across down : ℕ) → Rect → ℕ × List ℕ
-windowed across down w = said (prepareCall eightSteps
+windowed across down w = said (prepareCall originalSteps
     (record {
       map = record { across = across; down = down; cells = replicate (across * down) 1 };
       obstacles = [];
@@ -166,11 +166,11 @@ pub stores : (lists visited layouts points : ℕ) → Store
 stores l v y p = storeIn (replicate l 9) (replicate v 9) (replicate y 9) (replicate p 9)
 
 pub beginsIn : Work → Store → ℕ × List ℕ
-beginsIn work store = said (beginCall eightSteps whole (limits 1 1) work store .answer)
+beginsIn work store = said (beginCall originalSteps whole (limits 1 1) work store .answer)
 
 -- prepare, with a baseline of 15 entries
 pub preparesIn : Work → ℕ × List ℕ
-preparesIn work = said (prepareCall eightSteps
+preparesIn work = said (prepareCall originalSteps
     (record { map = record { across = 1; down = 1; cells = 1 ∷ [] }; obstacles = []; window = W; start = at 0 1; end = at 4 1; mover = still0 })
     (replicate 15 9) work .answer)
 

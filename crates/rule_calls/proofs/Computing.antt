@@ -5,7 +5,7 @@ use Rattle.base_model.specs.Answers.{refusal, ask, first, saidOf, replyOf}
 use Rattle.ground_rects.specs.Rects.{rect, nonempty, has, holds, intersects, keepsOff, small, rectsOf}
 use Rattle.ground_rects.specs.Windows.{width, height, centres, windowFits, inWindow, pixelX, pixelY, centreAt, positionOf}
 use Rattle.ground_baseline.specs.Baseline.{mapFits, cellRect, offTerrain, offObstacle, offEdge, mark, baselineOf}
-use Rattle.rule_routes.specs.Edges.{stepBy, eightSteps, stepsOf, eqZ, sameStep, eachOnce, centre, inside, sidesFrom, edgeBy, edgesFrom, windowEdges}
+use Rattle.rule_routes.specs.Edges.{stepBy, eightSteps, stepsOf, eqZ, sameStep, eachOnce, tableFits, originalSteps, centre, inside, sidesFrom, edgeBy, edgesFrom, windowEdges}
 use Rattle.rule_routes.specs.Routes.{neighbours, known, onward, discover, anyRoute, sweep, searchFrom, nodesOf, route, reachCount, sidesOf, leansOn}
 use Rattle.rule_layouts.specs.Boards.{used, mayJoin, leavesOpen, openEnds, routePast}
 use Rattle.rule_layouts.specs.Explore.{mapPoints, touches, extensions, isMinimalBlock, allowedRoute, wallBy, explore}
@@ -37,19 +37,23 @@ use Rattle.rule_calls.specs.Areas.{
 use Rattle.rule_calls.specs.Calls.{
   bare,
   prepareChecks,
+  prepareOver,
   prepareCall,
   noRecord,
   beginChecks,
   bothRoutes,
+  beginOver,
   beginCall,
   planOf,
   stepChecks,
+  stepOver,
   stepCall,
   readChecks,
   readCall,
   judgementOf,
   selectionFits,
   judgeChecks,
+  judgeOver,
   judgeCall,
 }
 use Rattle.rule_calls.specs.Checks.{groupChecks, moversSmall, routeChecks, placementFits, firstMisplaced, placeChecks, limitChecks, queryChecks}
@@ -63,7 +67,7 @@ unfolding anyOf allOf select flat firstOf isSome span below total member same as
     rect nonempty has holds intersects keepsOff small rectsOf
     width height centres windowFits inWindow pixelX pixelY centreAt positionOf
     mapFits cellRect offTerrain offObstacle offEdge mark baselineOf
-    stepBy eightSteps stepsOf eqZ sameStep eachOnce centre inside sidesFrom edgeBy edgesFrom windowEdges
+    stepBy eightSteps stepsOf eqZ sameStep eachOnce tableFits originalSteps centre inside sidesFrom edgeBy edgesFrom windowEdges
     neighbours known onward discover anyRoute sweep searchFrom nodesOf route reachCount sidesOf leansOn
     used mayJoin leavesOpen openEnds routePast
     mapPoints touches extensions isMinimalBlock allowedRoute wallBy explore
@@ -72,7 +76,8 @@ unfolding anyOf allOf select flat firstOf isSome span below total member same as
     noFrame push atStateLimit look evaluated pendingFrame listFrame topFrame frame frames advance step begun
     state stop lastTaken setOn pointsKept framesLeft
     countsLength pointsLength workFits storeFits basesFit laid cleared reasonOf numberOf rowOf positions numbers pointsOf listOf listsOf stateOf recordOf row storeOf
-    bare prepareChecks prepareCall noRecord beginChecks bothRoutes beginCall planOf stepChecks stepCall readChecks readCall judgementOf selectionFits judgeChecks judgeCall
+    bare prepareChecks prepareOver prepareCall noRecord beginChecks bothRoutes beginOver beginCall planOf stepChecks stepOver stepCall readChecks readCall
+    judgementOf selectionFits judgeChecks judgeOver judgeCall
     groupChecks moversSmall routeChecks placementFits firstMisplaced placeChecks limitChecks queryChecks
     rectAt placementAt wholes placementsOf
     noPlace placesOf moverOf allowedOf boardOf

@@ -18,7 +18,7 @@ use Rattle.base_model.specs.declared.Limits.{Limits}
 use Rattle.ground_rects.specs.Rects.{rect}
 use Rattle.ground_rects.specs.Windows.{centres}
 use Rattle.ground_baseline.specs.Baseline.{Map}
-use Rattle.rule_routes.specs.Edges.{eightSteps}
+use Rattle.rule_routes.specs.Edges.{originalSteps}
 use Rattle.rule_search.specs.State.{Reason}
 use Rattle.rule_layouts.specs.Inputs.{Inputs}
 use Rattle.rule_calls.specs.Areas.{Work, Store, countsLength, pointsLength, rowOf, reasonOf}
@@ -97,7 +97,7 @@ pub record Case : Type 0 where
   pub places : List Placement
 
 unfoldable pub prepared : Case → Bounds → Prepared
-prepared s m = prepareCall eightSteps
+prepared s m = prepareCall originalSteps
     (record { map = s .map; obstacles = s .obstacles; window = s .window; start = s .start; end = s .end; mover = m })
     (nines (centres (s .window))) (workFor (s .window))
 
@@ -119,11 +119,11 @@ inputsOf s = record {
 }
 
 unfoldable pub begins : Inputs → Limits → After
-begins i l = beginCall eightSteps i l (workFor (i .query .window)) (storeFor i l)
+begins i l = beginCall originalSteps i l (workFor (i .query .window)) (storeFor i l)
 
 unfoldable pub stepped : Inputs → Limits → List ℕ → After → After
 stepped i l [] a = a
-stepped i l (n ∷ ns) a = stepped i l ns (stepCall eightSteps i l (a .rec) n (a .work) (a .store))
+stepped i l (n ∷ ns) a = stepped i l ns (stepCall originalSteps i l (a .rec) n (a .work) (a .store))
 
 -- ---- what is shown
 -- a layout's row, and all that reading it gives: an answer and points
@@ -160,7 +160,7 @@ drive s ns =
     [ some r ↦ refused r | none ↦ shownBy i (s .limits) (b .answer) b ]
 
 unfoldable pub judging : Case → List ℕ → Shown
-judging s m = judged (judgeCall eightSteps (inputsOf s) m (workFor (s .window)) .answer)
+judging s m = judged (judgeCall originalSteps (inputsOf s) m (workFor (s .window)) .answer)
 
 unfoldable pub answered : Option Said → Shown
 answered none = passed

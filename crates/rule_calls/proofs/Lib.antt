@@ -4,6 +4,7 @@ pub mod Refusals
 pub mod Records
 pub mod BothSides
 pub mod Orders
+pub mod Ordered
 pub mod Blocks
 pub mod Back
 pub mod Clearing
@@ -16,4 +17,5 @@ pub mod StepLaws
 pub mod Shapes
 pub mod Reading
 pub mod Named
+pub mod Tables
 pub mod Selected

@@ -15,7 +15,7 @@ use Rattle.rule_layouts.specs.Boards.{Mover, Board}
 use Rattle.rule_layouts.specs.Inputs.{Inputs, boardOf}
 use Rattle.rule_calls.specs.Areas.{Work, Store, workFits}
 use Rattle.rule_calls.specs.Checks.{groupChecks, limitChecks, queryChecks, routeChecks, placementFits, firstMisplaced, placeChecks}
-use Rattle.rule_calls.specs.Calls.{beginChecks, bothRoutes, beginCall, stepChecks, stepCall, judgeChecks}
+use Rattle.rule_calls.specs.Calls.{beginChecks, bothRoutes, beginOver, stepChecks, stepOver, judgeChecks}
 
 pub data Named : Option Said → Type 0 where
   Named·passed : Named none
@@ -84,27 +84,27 @@ routes-named g = then-named (routeChecks g (g .block)) _ (route-named g (g .bloc
 
 -- ---- begin, step
 module _ (steps : List Step) (i : Inputs) (l : Limits) (w : Work) (a : Store) where
-  pub begin-named : Named (beginCall steps i l w a .answer)
-  unfolding beginCall beginChecks
+  pub begin-named : Named (beginOver steps i l w a .answer)
+  unfolding beginOver beginChecks
   begin-named =
       let late = then-named (bothRoutes (boardOf steps i)) (placeChecks i) (routes-named (boardOf steps i)) (place-named i) in
       go (first (beginChecks i l w a)) refl (query-named i l _) (first (bothRoutes (boardOf steps i) ++ placeChecks i)) refl late
     where
       go : (o : Option Said) → first (beginChecks i l w a) ≡ o → Named o → (p : Option Said) → first (bothRoutes (boardOf steps i) ++ placeChecks i) ≡ p
-          → Named p → Named (beginCall steps i l w a .answer)
-      go none e f none g h = rw (beginCall, e, g) Named·passed
-      go none e f (some x) g h = rw (beginCall, e, g) h
-      go (some x) e f p g h = rw (beginCall, e) f
+          → Named p → Named (beginOver steps i l w a .answer)
+      go none e f none g h = rw (beginOver, e, g) Named·passed
+      go none e f (some x) g h = rw (beginOver, e, g) h
+      go (some x) e f p g h = rw (beginOver, e) f
 
-  pub step-named : (r : Record) (n : ℕ) → Named (stepCall steps i l r n w a .answer)
-  unfolding stepCall stepChecks beginChecks
+  pub step-named : (r : Record) (n : ℕ) → Named (stepOver steps i l r n w a .answer)
+  unfolding stepOver stepChecks beginChecks
   step-named r n = go (first (stepChecks i l r w a)) refl
       (then-named (beginChecks i l w a ++ placeChecks i) _ (then-named (beginChecks i l w a) (placeChecks i) (query-named i l _) (place-named i))
       (asks-named 16 _ [] (omega arith) last-named))
     where
-      go : (o : Option Said) → first (stepChecks i l r w a) ≡ o → Named o → Named (stepCall steps i l r n w a .answer)
-      go none e h = rw (stepCall, e) Named·passed
-      go (some x) e h = rw (stepCall, e) h
+      go : (o : Option Said) → first (stepChecks i l r w a) ≡ o → Named o → Named (stepOver steps i l r n w a .answer)
+      go none e h = rw (stepOver, e) Named·passed
+      go (some x) e h = rw (stepOver, e) h
 
 -- ---- judging
 pub judge-named : (i : Inputs) (s : List ℕ) (w : Work) → Named (first (judgeChecks i s w))

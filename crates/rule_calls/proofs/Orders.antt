@@ -7,7 +7,7 @@ use mathlib.Core.List.{List, [], _∷_, _++_, map}
 use lib.ListN.{replicate}
 use Rattle.base_model.specs.declared.Allow.the-variants.{Nobody, Bounded}
 use Rattle.base_model.specs.declared.Limits.{Limits}
-use Rattle.rule_routes.specs.Edges.{eightSteps}
+use Rattle.rule_routes.specs.Edges.{originalSteps}
 use Rattle.rule_layouts.specs.Inputs.{Inputs}
 use Rattle.rule_calls.specs.Calls.{noRecord, stepCall, readCall, Judgement, refuses, judges, judgeCall}
 use Rattle.rule_calls.proofs.Computing.{computing}
@@ -32,7 +32,7 @@ unfoldable pub byBegin : Faulty → ℕ × List ℕ
 byBegin f = beginAnswer (f .inputs) (f .limits)
 
 unfoldable pub byStep : Faulty → ℕ × List ℕ
-byStep f = said (stepCall eightSteps (f .inputs) (f .limits) noRecord 3 (workFor (f .inputs .query .window)) (storeFor (f .inputs) (f .limits)) .answer)
+byStep f = said (stepCall originalSteps (f .inputs) (f .limits) noRecord 3 (workFor (f .inputs .query .window)) (storeFor (f .inputs) (f .limits)) .answer)
 
 unfoldable pub byReading : Faulty → ℕ × List ℕ
 byReading f = said (readCall (f .inputs) (f .limits) noRecord 0 (storeFor (f .inputs) (f .limits)) .answer)
@@ -42,7 +42,7 @@ saidIn (refuses e) = said (some e)
 saidIn (judges v n) = number 0
 
 unfoldable pub byJudging : Faulty → ℕ × List ℕ
-byJudging f = saidIn (judgeCall eightSteps (f .inputs) (9 ∷ []) (workFor (f .inputs .query .window)) .answer)
+byJudging f = saidIn (judgeCall originalSteps (f .inputs) (9 ∷ []) (workFor (f .inputs .query .window)) .answer)
 
 unfoldable pub wanted : Faulty → ℕ × List ℕ
 wanted f = f .answer

@@ -8,7 +8,7 @@ use mathlib.Core.List.{List, [], _∷_, _++_}
 use lib.ListN.{replicate}
 use Rattle.base_model.specs.declared.Record.{Record}
 use Rattle.base_model.specs.declared.Allow.the-variants.{Nobody, Bounded}
-use Rattle.rule_routes.specs.Edges.{eightSteps}
+use Rattle.rule_routes.specs.Edges.{originalSteps}
 use Rattle.rule_layouts.specs.Inputs.{Inputs}
 use Rattle.rule_search.specs.State.{Reason, Running, Exhausted, StateLimit, ResultLimit}
 use Rattle.rule_calls.specs.Areas.{Store, reasonOf, numberOf}
@@ -42,7 +42,7 @@ pub inputs : Inputs
 inputs = alone placesP
 
 pub steps : Record → Store → ℕ × List ℕ
-steps r a = said (stepCall eightSteps inputs (limits 5 2) r 3 (workFor W) a .answer)
+steps r a = said (stepCall originalSteps inputs (limits 5 2) r 3 (workFor W) a .answer)
 
 pub records : List (Row (ℕ × List ℕ))
 records =
@@ -93,7 +93,7 @@ misplaced = alone (good ∷ place 6 0 W W ∷ [])
 
 -- a step by three that is lent areas full of nines
 pub soiled : Inputs → Record → After
-soiled i r = stepCall eightSteps i (limits 2 2) r 3 (workFor W) (storeFor i (limits 2 2))
+soiled i r = stepCall originalSteps i (limits 2 2) r 3 (workFor W) (storeFor i (limits 2 2))
 
 -- record, working areas and store are as given: refused by 15 with a record as begin leaves it; by 16, since no row has nine members
 pub leaves-at-15 : soiled misplaced (rec 1 0 2 0 0 true 0 0)
@@ -117,7 +117,7 @@ fourteen-first = refl
 
 -- two lists: the second list of (0) or (1) holds placements that may join the set below
 pub second : (length next : ℕ) → List ℕ → List ℕ → ℕ × List ℕ
-second n k first more = said (stepCall eightSteps inputs (limits 5 2)
+second n k first more = said (stepCall originalSteps inputs (limits 5 2)
     (record {
       reason = 1;
       evaluations = 2;
@@ -132,7 +132,7 @@ second n k first more = said (stepCall eightSteps inputs (limits 5 2)
 
 -- as in `inputs`, with one slot alone
 pub oneSlot : ℕ × List ℕ
-oneSlot = said (stepCall eightSteps (given W (at 0 1) (at 4 1) still0 Nobody (1 ∷ []) placesP open0 []) (limits 5 2)
+oneSlot = said (stepCall originalSteps (given W (at 0 1) (at 4 1) still0 Nobody (1 ∷ []) placesP open0 []) (limits 5 2)
     (record {
       reason = 1;
       evaluations = 2;
@@ -225,6 +225,6 @@ unfolding computing driving reasons named
 reasons-numbered = (refl, refl)
 
 -- a running record at the state limit is stopped before a frame, and its used entries stay
-pub at-the-limit : stepCall eightSteps inputs (limits 2 2) (rec 1 2 3 1 1 false 2 1) 3 (workFor W) (kept (0 ∷ 1 ∷ []) (1 ∷ [])) .rec ≡ rec 3 2 3 1 1 false 2 1
+pub at-the-limit : stepCall originalSteps inputs (limits 2 2) (rec 1 2 3 1 1 false 2 1) 3 (workFor W) (kept (0 ∷ 1 ∷ []) (1 ∷ [])) .rec ≡ rec 3 2 3 1 1 false 2 1
 unfolding computing driving rec kept inputs
 at-the-limit = refl

@@ -15,7 +15,7 @@ use Rattle.base_model.specs.declared.Limits.{Limits}
 use Rattle.base_model.specs.declared.Refusal.the-variants.{PlacementInvalid}
 use Rattle.base_model.specs.declared.Verdict.the-variants.{Slots, Spare, Wall}
 use Rattle.base_model.specs.declared.Judged.the-variants.{Verdict as AVerdict, Refused as ARefusal}
-use Rattle.rule_routes.specs.Edges.{eightSteps}
+use Rattle.rule_routes.specs.Edges.{originalSteps}
 use Rattle.rule_layouts.specs.Inputs.{Inputs}
 use Rattle.rule_layouts.specs.Flat.{placementsOf}
 use Rattle.rule_calls.specs.Areas.{Work}
@@ -37,7 +37,7 @@ reach n = bounds n 0 0 0
 
 -- ---- prepare, on a map one cell high, with a baseline of so many entries
 pub prepares : (across : ℕ) → List ℕ → List ℤ → Rect → Position → Position → Bounds → (long : ℕ) → Prepared
-prepares across cells obstacles w a b m long = prepareCall eightSteps
+prepares across cells obstacles w a b m long = prepareCall originalSteps
     (record { map = record { across = across; down = 1; cells = cells }; obstacles = obstacles; window = w; start = a; end = b; mover = m })
     (replicate long 9) (workFor W)
 
@@ -113,7 +113,7 @@ beginning =
     ∷ (beginAnswer (given W (at 0 3) (at 4 1) (reach 257) Nobody [] [] [] []) (limits 5 5) gives number 3)
     ∷ (beginAnswer (given W (at 0 1) (at 4 1) still0 (Bounded (reach 257)) [] [] [] []) (limits 5 5) gives number 4)
     ∷ (beginAnswer (both open0 (replicate 14 2)) (limits 5 5) gives number 6)
-    ∷ (said (beginCall eightSteps (both (replicate 15 2) open0) (limits 5 5) (workFor W) (storeFor (alone []) (limits 5 5)) .answer) gives number 6)
+    ∷ (said (beginCall originalSteps (both (replicate 15 2) open0) (limits 5 5) (workFor W) (storeFor (alone []) (limits 5 5)) .answer) gives number 6)
     -- any count that isn't zero blocks, and none is turned away
     ∷ (beginAnswer (both (replicate 15 2) open0) (limits 5 5) gives number 7)
     ∷ (beginAnswer (both open0 (replicate 15 255)) (limits 5 5) gives number 7)
@@ -186,7 +186,7 @@ begin-leaves = refl
 
 -- ---- judging
 pub judged : Inputs → List ℕ → AfterJudge
-judged i s = judgeCall eightSteps i s (workFor (i .query .window))
+judged i s = judgeCall originalSteps i s (workFor (i .query .window))
 
 -- 15 and 17 write nothing: not ascending, a member twice, one that names no placement, seven members
 pub judging : List (Row AfterJudge)

@@ -15,7 +15,7 @@ use Rattle.rule_layouts.specs.Inputs.{Inputs}
 use Rattle.rule_search.specs.State.{Extensions, Layout, State, state}
 use Rattle.rule_search.specs.Frames.{step, begun}
 use Rattle.rule_calls.specs.Areas.{Work, Store, stateOf, recordOf}
-use Rattle.rule_calls.specs.Calls.{After, beginCall, planOf, stepCall}
+use Rattle.rule_calls.specs.Calls.{After, beginOver, planOf, stepOver}
 use Rattle.rule_calls.proofs.Whole.{Shape}
 use Rattle.rule_calls.proofs.Sound.{sound}
 use Rattle.rule_calls.proofs.StepLaws.{left, step-passed, step-checks, step-is, step-accepted, begin-is}
@@ -31,16 +31,16 @@ laid-shape places s few deep =
     }
 
 module _ (steps : List Step) (once : eachOnce steps ≡ true) (i : Inputs) (l : Limits) where
-  pub begin-shape : (work : Work) (store : Store) → beginCall steps i l work store .answer ≡ none → Shape (beginCall steps i l work store .rec)
+  pub begin-shape : (work : Work) (store : Store) → beginOver steps i l work store .answer ≡ none → Shape (beginOver steps i l work store .rec)
   unfolding left recordOf begun state padded
   begin-shape work store ok =
       subst (λ (x : After). Shape (x .rec)) (sym (begin-is steps once i l work store ok)) (record { routes = refl; lengths = refl; nexts = refl })
 
-  pub step-shape : (r : Record) (n : ℕ) (work : Work) (store : Store) → Shape r → stepCall steps i l r n work store .answer ≡ none
-      → Shape (stepCall steps i l r n work store .rec)
+  pub step-shape : (r : Record) (n : ℕ) (work : Work) (store : Store) → Shape r → stepOver steps i l r n work store .answer ≡ none
+      → Shape (stepOver steps i l r n work store .rec)
   unfolding left recordOf
   step-shape r n work store shape ok =
-      let o = stepCall steps i l r n work store in
+      let o = stepOver steps i l r n work store in
       let again = step-checks steps once i l (o .rec) (o .work) (o .store) 0 (step-accepted steps once i l r work store shape n ok n 0) in
       let p = step-passed steps once i l (o .rec) (o .work) (o .store) again in
       let s = sound i (o .rec) (o .store) l (p .fits) in

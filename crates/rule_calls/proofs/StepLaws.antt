@@ -35,7 +35,7 @@ use Rattle.rule_search.proofs.Formed.{step-good, begun-good}
 use Rattle.rule_calls.specs.Areas.{Work, Store, basesFit, workFits, storeFits, cleared, numberOf, reasonOf, rowOf, stateOf, recordOf, storeOf}
 use Rattle.rule_calls.specs.Checks.{groupChecks, limitChecks, queryChecks, placeChecks, placementFits, firstMisplaced, moversSmall}
 use Rattle.rule_calls.specs.RecordCheck.{recordFits}
-use Rattle.rule_calls.specs.Calls.{After, beginChecks, bothRoutes, beginCall, planOf, stepChecks, stepCall, readChecks, readCall}
+use Rattle.rule_calls.specs.Calls.{After, beginChecks, bothRoutes, beginOver, planOf, stepChecks, stepOver, readChecks, readCall}
 use Rattle.rule_calls.proofs.Back.{state-back, reason-back}
 use Rattle.rule_calls.proofs.Sound.{sound}
 use Rattle.rule_calls.proofs.Whole.{Shape}
@@ -161,17 +161,17 @@ module _ (steps : List Step) (once : eachOnce steps ≡ true) (i : Inputs) (l : 
   left s work store = record { answer = none; rec = recordOf (length (i .places)) s; work = cleared (i .query .window) work; store = storeOf i l s store }
 
   module _ (r : Record) (work : Work) (store : Store) where
-    pub step-checks : (n : ℕ) → stepCall steps i l r n work store .answer ≡ none → first (stepChecks i l r work store) ≡ none
-    unfolding stepCall
+    pub step-checks : (n : ℕ) → stepOver steps i l r n work store .answer ≡ none → first (stepChecks i l r work store) ≡ none
+    unfolding stepOver
     step-checks n e = go (first (stepChecks i l r work store)) refl
       where
         go : (o : Option Said) → first (stepChecks i l r work store) ≡ o → first (stepChecks i l r work store) ≡ none
         go none q = q
-        go (some x) q = absurd (let h : some x ≡ none = rw (stepCall, q) at e in let z : _≡_ {A = ℕ} 0 1 = cc in let w : ⊥ = omega arith in w)
+        go (some x) q = absurd (let h : some x ≡ none = rw (stepOver, q) at e in let z : _≡_ {A = ℕ} 0 1 = cc in let w : ⊥ = omega arith in w)
 
-    pub step-is : first (stepChecks i l r work store) ≡ none → (n : ℕ) → stepCall steps i l r n work store ≡ left (step (planOf steps i l) n (stateOf r store)) work store
-    unfolding stepCall left
-    step-is e n = rw (stepCall, e)
+    pub step-is : first (stepChecks i l r work store) ≡ none → (n : ℕ) → stepOver steps i l r n work store ≡ left (step (planOf steps i l) n (stateOf r store)) work store
+    unfolding stepOver left
+    step-is e n = rw (stepOver, e)
 
   -- what is left of a search of the form is let in again, and read as it was
   module _ (s : State) (g : Good (boardOf steps i) (planOf steps i l) s) (work : Work) (store : Store) where
@@ -206,40 +206,40 @@ module _ (steps : List Step) (once : eachOnce steps ≡ true) (i : Inputs) (l : 
         rw (readCall, c)
 
   -- ---- the laws, on a record and areas that step accepts
-  module _ (r : Record) (work : Work) (store : Store) (shape : Shape r) (n₀ : ℕ) (yes₀ : stepCall steps i l r n₀ work store .answer ≡ none) where
+  module _ (r : Record) (work : Work) (store : Store) (shape : Shape r) (n₀ : ℕ) (yes₀ : stepOver steps i l r n₀ work store .answer ≡ none) where
     found : Passed r work store
     found = step-passed r work store (step-checks r work store n₀ yes₀)
 
-    is : (n : ℕ) → stepCall steps i l r n work store ≡ left (step (planOf steps i l) n (stateOf r store)) work store
+    is : (n : ℕ) → stepOver steps i l r n work store ≡ left (step (planOf steps i l) n (stateOf r store)) work store
     is = step-is r work store (step-checks r work store n₀ yes₀)
 
     good : (n : ℕ) → Good (boardOf steps i) (planOf steps i l) (step (planOf steps i l) n (stateOf r store))
     good n = keeps (found .fair) n (stateOf r store) (checked-good steps i l r store shape (found .fair .few) (found .areas) (found .fits))
 
     -- the answer does not depend on the number
-    pub step-any : (n : ℕ) → stepCall steps i l r n work store .answer ≡ none
+    pub step-any : (n : ℕ) → stepOver steps i l r n work store .answer ≡ none
     unfolding left
     step-any n = ap (λ (x : After). x .answer) (is n)
 
-    after-step : (a b : ℕ) → stepCall steps i l (stepCall steps i l r a work store .rec) b (stepCall steps i l r a work store .work) (stepCall steps i l r a work store .store)
+    after-step : (a b : ℕ) → stepOver steps i l (stepOver steps i l r a work store .rec) b (stepOver steps i l r a work store .work) (stepOver steps i l r a work store .store)
         ≡ left (step (planOf steps i l) (a + b) (stateOf r store)) work store
     after-step a b =
         let p = planOf steps i l in
         let s = step p a (stateOf r store) in
         let x = left s work store in
-        ap (λ (x : After). stepCall steps i l (x .rec) b (x .work) (x .store)) (is a)
+        ap (λ (x : After). stepOver steps i l (x .rec) b (x .work) (x .store)) (is a)
         ∙ step-is (x .rec) (x .work) (x .store) (left-passes s (good a) work store (found .begins) (found .places)) b
         ∙ ap (λ (t : State). left (step p b t) (x .work) (x .store)) (left-reads s (good a) work store)
         ∙ left-again s (good a) work store (step p b s)
         ∙ ap (λ (t : State). left t work store) (sym (step-add p a b (stateOf r store)))
 
     -- what a step leaves is accepted by the next, with any number, and each of its layouts can be read
-    pub step-accepted : (n m : ℕ) → stepCall steps i l (stepCall steps i l r n work store .rec) m (stepCall steps i l r n work store .work) (stepCall steps i l r n work store .store) .answer ≡ none
+    pub step-accepted : (n m : ℕ) → stepOver steps i l (stepOver steps i l r n work store .rec) m (stepOver steps i l r n work store .work) (stepOver steps i l r n work store .store) .answer ≡ none
     unfolding left
     step-accepted n m = ap (λ (x : After). x .answer) (after-step n m)
 
-    pub step-readable : (n k : ℕ) → k < stepCall steps i l r n work store .rec .layouts
-        → readCall i l (stepCall steps i l r n work store .rec) k (stepCall steps i l r n work store .store) .answer ≡ none
+    pub step-readable : (n k : ℕ) → k < stepOver steps i l r n work store .rec .layouts
+        → readCall i l (stepOver steps i l r n work store .rec) k (stepOver steps i l r n work store .store) .answer ≡ none
     step-readable n k h =
         let s = step (planOf steps i l) n (stateOf r store) in
         subst (λ (x : After). k < x .rec .layouts → readCall i l (x .rec) k (x .store) .answer ≡ none) (sym (is n))
@@ -247,12 +247,12 @@ module _ (steps : List Step) (once : eachOnce steps ≡ true) (i : Inputs) (l : 
 
     -- a and then b is a + b
     pub step-joins : (a b : ℕ)
-        → stepCall steps i l (stepCall steps i l r a work store .rec) b (stepCall steps i l r a work store .work) (stepCall steps i l r a work store .store)
-        ≡ stepCall steps i l r (a + b) work store
+        → stepOver steps i l (stepOver steps i l r a work store .rec) b (stepOver steps i l r a work store .work) (stepOver steps i l r a work store .store)
+        ≡ stepOver steps i l r (a + b) work store
     step-joins a b = after-step a b ∙ sym (is (a + b))
 
     -- after a stop and for zero no used entry changes
-    pub step-stays : (n : ℕ) → (n ≡ 0) ⊎ (r .reason ≢ numberOf Running) → stateOf (stepCall steps i l r n work store .rec) (stepCall steps i l r n work store .store) ≡ stateOf r store
+    pub step-stays : (n : ℕ) → (n ≡ 0) ⊎ (r .reason ≢ numberOf Running) → stateOf (stepOver steps i l r n work store .rec) (stepOver steps i l r n work store .store) ≡ stateOf r store
     unfolding stateOf state numberOf
     step-stays n o =
         ap (λ (x : After). stateOf (x .rec) (x .store)) (is n)
@@ -265,11 +265,11 @@ module _ (steps : List Step) (once : eachOnce steps ≡ true) (i : Inputs) (l : 
     -- What a step by n hands to the evaluation: the visited rows that record and areas then hold are those held before, followed by the sets handed over, in
     -- order; the record's evaluations grow by so many; those are n, or at most n and the search has stopped.
     pub record Hands (n : ℕ) : Type 0 where
-      pub order : stateOf (stepCall steps i l r n work store .rec) (stepCall steps i l r n work store .store) .visited
+      pub order : stateOf (stepOver steps i l r n work store .rec) (stepOver steps i l r n work store .store) .visited
           ≡ stateOf r store .visited ++ handed (planOf steps i l) n (stateOf r store)
-      pub grown : stepCall steps i l r n work store .rec .evaluations ≡ r .evaluations + length (handed (planOf steps i l) n (stateOf r store))
+      pub grown : stepOver steps i l r n work store .rec .evaluations ≡ r .evaluations + length (handed (planOf steps i l) n (stateOf r store))
       pub count : (length (handed (planOf steps i l) n (stateOf r store)) ≡ n)
-          ⊎ ((length (handed (planOf steps i l) n (stateOf r store)) ≤ n) × (stepCall steps i l r n work store .rec .reason ≢ numberOf Running))
+          ⊎ ((length (handed (planOf steps i l) n (stateOf r store)) ≤ n) × (stepOver steps i l r n work store .rec .reason ≢ numberOf Running))
 
     pub step-exact : (n : ℕ) → Hands n
     unfolding left recordOf stateOf state
@@ -278,7 +278,7 @@ module _ (steps : List Step) (once : eachOnce steps ≡ true) (i : Inputs) (l : 
         let s = stateOf r store in
         let x = exactly-n p n s in
         let v : length (s .visited) ≡ r .evaluations = length-map (below (r .evaluations)) (rowOf (store .visited)) ∙ length-below (r .evaluations) in
-        let why : stepCall steps i l r n work store .rec .reason ≡ numberOf (step p n s .reason) = ap (λ (y : After). y .rec .reason) (is n) in
+        let why : stepOver steps i l r n work store .rec .reason ≡ numberOf (step p n s .reason) = ap (λ (y : After). y .rec .reason) (is n) in
         record {
           order = ap (λ (y : After). stateOf (y .rec) (y .store) .visited) (is n) ∙ ap (λ (t : State). t .visited) (left-reads (step p n s) (good n) work store) ∙ x .order;
           grown =
@@ -290,37 +290,37 @@ module _ (steps : List Step) (once : eachOnce steps ≡ true) (i : Inputs) (l : 
     -- it looks at the evaluation of no other set: another evaluation that agrees on these leads to the same
     pub step-looks : (n : ℕ) (f : List ℕ → Outcome Position)
         → ((w : List ℕ) → List·Memᴰ w (handed (planOf steps i l) n (stateOf r store)) → f w ≡ planOf steps i l .evaluate w)
-        → stepCall steps i l r n work store ≡ left (step (evaluating (planOf steps i l) f) n (stateOf r store)) work store
+        → stepOver steps i l r n work store ≡ left (step (evaluating (planOf steps i l) f) n (stateOf r store)) work store
     step-looks n f a = is n ∙ ap (λ (t : State). left t work store) (sym (step-only (planOf steps i l) f n (stateOf r store) a))
 
   -- ---- what an accepted begin leaves is accepted by step, with any number
-  module _ (work : Work) (store : Store) (yes₀ : beginCall steps i l work store .answer ≡ none) where
+  module _ (work : Work) (store : Store) (yes₀ : beginOver steps i l work store .answer ≡ none) where
     begin-checks : (first (beginChecks i l work store) ≡ none) × (first (placeChecks i) ≡ none)
-    unfolding beginCall
+    unfolding beginOver
     begin-checks = go (first (beginChecks i l work store)) refl (first (bothRoutes (boardOf steps i) ++ placeChecks i)) refl
       where
         go : (o : Option Said) → first (beginChecks i l work store) ≡ o → (o′ : Option Said) → first (bothRoutes (boardOf steps i) ++ placeChecks i) ≡ o′
             → (first (beginChecks i l work store) ≡ none) × (first (placeChecks i) ≡ none)
         go none q none q′ = (q, first-both (bothRoutes (boardOf steps i)) (placeChecks i) q′ .1)
-        go none q (some x) q′ = absurd (let h : some x ≡ none = rw (beginCall, q, q′) at yes₀ in let z : _≡_ {A = ℕ} 0 1 = cc in let w : ⊥ = omega arith in w)
-        go (some x) q o q′ = absurd (let h : some x ≡ none = rw (beginCall, q) at yes₀ in let z : _≡_ {A = ℕ} 0 1 = cc in let w : ⊥ = omega arith in w)
+        go none q (some x) q′ = absurd (let h : some x ≡ none = rw (beginOver, q, q′) at yes₀ in let z : _≡_ {A = ℕ} 0 1 = cc in let w : ⊥ = omega arith in w)
+        go (some x) q o q′ = absurd (let h : some x ≡ none = rw (beginOver, q) at yes₀ in let z : _≡_ {A = ℕ} 0 1 = cc in let w : ⊥ = omega arith in w)
 
-    pub begin-is : beginCall steps i l work store ≡ left begun work store
-    unfolding beginCall left
+    pub begin-is : beginOver steps i l work store ≡ left begun work store
+    unfolding beginOver left
     begin-is = go (first (bothRoutes (boardOf steps i) ++ placeChecks i)) refl
       where
-        go : (o : Option Said) → first (bothRoutes (boardOf steps i) ++ placeChecks i) ≡ o → beginCall steps i l work store ≡ left begun work store
-        go none q = rw (beginCall, begin-checks .0, q)
-        go (some x) q = absurd (let h : some x ≡ none = rw (beginCall, begin-checks .0, q) at yes₀ in let z : _≡_ {A = ℕ} 0 1 = cc in let w : ⊥ = omega arith in w)
+        go : (o : Option Said) → first (bothRoutes (boardOf steps i) ++ placeChecks i) ≡ o → beginOver steps i l work store ≡ left begun work store
+        go none q = rw (beginOver, begin-checks .0, q)
+        go (some x) q = absurd (let h : some x ≡ none = rw (beginOver, begin-checks .0, q) at yes₀ in let z : _≡_ {A = ℕ} 0 1 = cc in let w : ⊥ = omega arith in w)
 
-    pub begin-accepted : (n : ℕ) → stepCall steps i l (beginCall steps i l work store .rec) n (beginCall steps i l work store .work) (beginCall steps i l work store .store) .answer ≡ none
+    pub begin-accepted : (n : ℕ) → stepOver steps i l (beginOver steps i l work store .rec) n (beginOver steps i l work store .work) (beginOver steps i l work store .store) .answer ≡ none
     unfolding beginChecks left planOf
     begin-accepted n =
         let c = begin-checks in
         let f = fair i l (workFits (i .query .window) work && storeFits i l store) (c .0) (c .1) in
         let g : Good (boardOf steps i) (planOf steps i l) begun = begun-good (boardOf steps i) (planOf steps i l) (some-results (f .1)) in
         let x = left begun work store in
-        ap (λ (x : After). stepCall steps i l (x .rec) n (x .work) (x .store) .answer) begin-is
+        ap (λ (x : After). stepOver steps i l (x .rec) n (x .work) (x .store) .answer) begin-is
         ∙ ap (λ (x : After). x .answer) (step-is (x .rec) (x .work) (x .store) (left-passes begun g work store (rw (f .0) at (c .0)) (c .1)) n)
       where
         some-results : Fair i l → 0 < planOf steps i l .results

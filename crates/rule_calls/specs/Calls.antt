@@ -1,13 +1,14 @@
--- The calls: from all that each is given to all that it leaves (RULES 1.9, 6.8, 7.1, 7.3, 7.4, 7.5, 7.6, 7.7, 8.1, 8.2, 8.5). The table of steps is a parameter; the calls are these at `eightSteps`.
+-- The calls: from all that each is given to all that it leaves (RULES 1.9, 6.8, 7.1, 7.3, 7.4, 7.5, 7.6, 7.7, 8.1, 8.2, 8.5, 14). Preparing, beginning, stepping and
+-- judging go over an order of steps. The caller gives it as a table: 19 unless that fits, before every other check and writing nothing, and else the call over its order.
 use Prim.Native.Nat.{ℕ, _*_}
-use mathlib.Core.Bool.{Bool, false, _&&_}
+use mathlib.Core.Bool.{Bool, true, false, _&&_}
 use mathlib.Core.Option.{Option, none, some}
 use mathlib.Core.List.{List, [], _∷_, _++_}
 use lib.Dec.{leb, ltb}
 use lib.IntN.{ℤ}
 use lib.ListN.{length, replicate}
 use Rattle.base_laws.specs.Lists.{allOf, ascends}
-use Rattle.base_model.specs.Answers.{Said, ask, first, saidOf}
+use Rattle.base_model.specs.Answers.{Said, refusal, ask, first, saidOf}
 use Rattle.base_model.specs.declared.Rect.{Rect}
 use Rattle.base_model.specs.declared.Bounds.{Bounds}
 use Rattle.base_model.specs.declared.Position.{Position}
@@ -20,7 +21,7 @@ use Rattle.base_model.specs.declared.Judged.the-variants.{Verdict as AVerdict, 
 use Rattle.ground_rects.specs.Rects.{nonempty, small, rectsOf}
 use Rattle.ground_rects.specs.Windows.{centres, windowFits, inWindow, positionOf}
 use Rattle.ground_baseline.specs.Baseline.{Map, mapFits, baselineOf}
-use Rattle.rule_routes.specs.Edges.{Step}
+use Rattle.rule_routes.specs.Edges.{Step, stepsOf, tableFits}
 use Rattle.rule_layouts.specs.Boards.{Board}
 use Rattle.rule_layouts.specs.Explore.{mapPoints, explore}
 use Rattle.rule_layouts.specs.Judge.{verdict, groundLeft}
@@ -66,8 +67,8 @@ prepareChecks q baseline work =
     ∷ []
 
 -- 1 to 6 write nothing; 7 to 9 leave the baseline and working areas zero up to their lengths
-unfoldable pub prepareCall : List Step → Preparation → List ℕ → Work → Prepared
-prepareCall steps q baseline work =
+unfoldable pub prepareOver : List Step → Preparation → List ℕ → Work → Prepared
+prepareOver steps q baseline work =
     elim (first (prepareChecks q baseline work)) [
       | some r ↦ record { answer = some r; baseline = baseline; work = work }
       | none ↦
@@ -77,6 +78,13 @@ prepareCall steps q baseline work =
             | some r ↦ record { answer = some r; baseline = laid (centres (q .window)) [] baseline; work = cleared (q .window) work }
             | none ↦ record { answer = none; baseline = laid (centres (q .window)) base baseline; work = cleared (q .window) work }
           ]
+    ]
+
+unfoldable pub prepareCall : (table : List ℤ) → Preparation → List ℕ → Work → Prepared
+prepareCall table q baseline work =
+    elim (tableFits table) [
+      | false ↦ record { answer = some (refusal 19); baseline = baseline; work = work }
+      | true ↦ prepareOver (stepsOf table) q baseline work
     ]
 
 -- ---- begin and step
@@ -109,8 +117,8 @@ unfoldable pub bothRoutes : Board → List (Option Said)
 bothRoutes g = routeChecks g (g .block) ++ elim (g .allow) [ none ↦ [] | some m ↦ routeChecks g m ]
 
 -- On a refusal nothing is written, but 7, 8, 9, 14 and 15 leave the working areas zero.
-unfoldable pub beginCall : List Step → Inputs → Limits → Work → Store → After
-beginCall steps i l work store =
+unfoldable pub beginOver : List Step → Inputs → Limits → Work → Store → After
+beginOver steps i l work store =
     elim (first (beginChecks i l work store)) [
       | some r ↦ record { answer = some r; rec = noRecord; work = work; store = store }
       | none ↦
@@ -125,6 +133,13 @@ beginCall steps i l work store =
           ]
     ]
 
+unfoldable pub beginCall : (table : List ℤ) → Inputs → Limits → Work → Store → After
+beginCall table i l work store =
+    elim (tableFits table) [
+      | false ↦ record { answer = some (refusal 19); rec = noRecord; work = work; store = store }
+      | true ↦ beginOver (stepsOf table) i l work store
+    ]
+
 -- the evaluation's routes are kept in map pixels
 unfoldable pub planOf : List Step → Inputs → Limits → Plan
 planOf steps i l = record {
@@ -137,8 +152,8 @@ planOf steps i l = record {
 unfoldable pub stepChecks : Inputs → Limits → Record → Work → Store → List (Option Said)
 stepChecks i l r work store = beginChecks i l work store ++ placeChecks i ++ ask 16 (recordFits i r store l) ∷ []
 
-unfoldable pub stepCall : List Step → Inputs → Limits → Record → (n : ℕ) → Work → Store → After
-stepCall steps i l r n work store =
+unfoldable pub stepOver : List Step → Inputs → Limits → Record → (n : ℕ) → Work → Store → After
+stepOver steps i l r n work store =
     elim (first (stepChecks i l r work store)) [
       | some e ↦ record { answer = some e; rec = r; work = work; store = store }
       | none ↦
@@ -151,12 +166,19 @@ stepCall steps i l r n work store =
           }
     ]
 
+unfoldable pub stepCall : (table : List ℤ) → Inputs → Limits → Record → (n : ℕ) → Work → Store → After
+stepCall table i l r n work store =
+    elim (tableFits table) [
+      | false ↦ record { answer = some (refusal 19); rec = r; work = work; store = store }
+      | true ↦ stepOver (stepsOf table) i l r n work store
+    ]
+
 -- ---- reading a layout
 pub record ReadOut : Type 0 where
   pub answer : Option Said
   pub points : List ℕ
 
--- reading takes no working area
+-- reading takes no working area and no table
 unfoldable pub readChecks : Inputs → Limits → Record → (k : ℕ) → Store → List (Option Said)
 readChecks i l r k store =
     groupChecks i ++ limitChecks l ++ queryChecks i (storeFits i l store) ++ placeChecks i
@@ -191,9 +213,16 @@ unfoldable pub judgeChecks : Inputs → List ℕ → Work → List (Option Said)
 judgeChecks i s work =
     groupChecks i ++ queryChecks i (workFits (i .query .window) work) ++ placeChecks i ++ ask 17 (selectionFits (length (i .places)) s) ∷ []
 
-unfoldable pub judgeCall : List Step → Inputs → List ℕ → Work → AfterJudge
-judgeCall steps i s work =
+unfoldable pub judgeOver : List Step → Inputs → List ℕ → Work → AfterJudge
+judgeOver steps i s work =
     elim (first (judgeChecks i s work)) [
       | some e ↦ record { answer = refuses e; work = work }
       | none ↦ record { answer = judges (verdict (boardOf steps i) s) (groundLeft (boardOf steps i) s); work = cleared (i .query .window) work }
+    ]
+
+unfoldable pub judgeCall : (table : List ℤ) → Inputs → List ℕ → Work → AfterJudge
+judgeCall table i s work =
+    elim (tableFits table) [
+      | false ↦ record { answer = refuses (refusal 19); work = work }
+      | true ↦ judgeOver (stepsOf table) i s work
     ]

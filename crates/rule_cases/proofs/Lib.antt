@@ -1,3 +1,4 @@
 pub mod Marked
 pub mod Further
+pub mod TwoTables
 pub mod Lengths

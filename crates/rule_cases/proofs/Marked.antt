@@ -5,7 +5,7 @@ use lib.ListN.{replicate}
 use Rattle.base_model.specs.declared.Rect.{Rect}
 use Rattle.base_model.specs.declared.Allow.the-variants.{Nobody, Bounded}
 use Rattle.base_model.specs.declared.Verdict.the-variants.{Open, Wall, Overlap}
-use Rattle.rule_routes.specs.Edges.{eightSteps}
+use Rattle.rule_routes.specs.Edges.{originalSteps}
 use Rattle.rule_search.specs.State.{Running, Exhausted, StateLimit, ResultLimit}
 use Rattle.rule_calls.specs.Calls.{prepareCall, beginCall, judges}
 use Rattle.rule_calls.proofs.Computing.{computing}
@@ -54,13 +54,13 @@ Q = onOpenCell (box 0 0 2 2) (at 0 0) (at 1 1) still0 Nobody (limits 100 32) (2 
 
 -- prepare on a map of 128 by 129 cells, all walkable, with areas that are too short: 6 where checks 1 to 5 pass
 preparing : Rect → Shown
-preparing w = answered (prepareCall eightSteps
+preparing w = answered (prepareCall originalSteps
     (record { map = record { across = 128; down = 129; cells = replicate 16512 1 }; obstacles = []; window = w; start = at 0 0; end = at 1 1; mover = still0 })
     [] (workFor (box 0 0 1 1)) .answer)
 
 -- begin with areas that are too short: 6 where the checks before it pass
 beginning : Rect → Shown
-beginning w = answered (beginCall eightSteps (given w (at 0 0) (at 1 1) still0 Nobody [] [] [] []) (limits 1 1) (workFor (box 0 0 1 1))
+beginning w = answered (beginCall originalSteps (given w (at 0 0) (at 1 1) still0 Nobody [] [] [] []) (limits 1 1) (workFor (box 0 0 1 1))
     (record { lists = []; visited = []; layouts = []; points = [] }) .answer)
 
 pub table : List (Row Shown)

@@ -6,3 +6,4 @@ pub mod SameWalls
 pub mod Judged
 pub mod Ground
 pub mod FlatPlaces
+pub mod Alike

@@ -1,12 +1,13 @@
--- Computed cases that a wrong definition fails: edges, routes, how many centres have one and what they lean on in small windows, and centre numbers past 65,535.
+-- Computed cases that a wrong definition fails: tables, edges, routes, how many centres have one and what they lean on in small windows, and centre numbers past 65,535.
 use Prim.Native.Nat.{ℕ, _*_}
 use mathlib.Core.Path.{_≡_, refl}
-use mathlib.Core.Bool.{Bool, not}
+use mathlib.Core.Bool.{Bool, true, false, not}
 use mathlib.Core.Option.{Option, none, some}
-use mathlib.Core.List.{List, [], _∷_}
-use lib.IntN.{pos, negsuc}
+use mathlib.Core.List.{List, [], _∷_, _++_, map}
+use lib.IntN.{ℤ, pos, negsuc}
+use lib.ListN.{take, drop, replicate}
 use Rattle.base_laws.specs.Lists.{anyOf, allOf, select, flat, isSome, span, below, member}
-use Rattle.rule_routes.specs.Edges.{Edge, stepBy, eightSteps, stepsOf, eqZ, centre, inside, sidesFrom, edgeBy, edgesFrom, windowEdges}
+use Rattle.rule_routes.specs.Edges.{Edge, stepBy, eightSteps, stepsOf, eqZ, sameStep, eachOnce, tableFits, originalSteps, centre, inside, sidesFrom, edgeBy, edgesFrom, windowEdges}
 use Rattle.rule_routes.specs.Routes.{neighbours, known, onward, discover, sweep, searchFrom, anyRoute, nodesOf, route, reachCount, sidesOf, leansOn}
 
 -- all centres but these are open
@@ -26,10 +27,45 @@ unfolding windowEdges edgesFrom edgeBy sidesFrom inside centre eqZ eightSteps st
 eight = refl
 
 -- the table as x, y pairs
-pairs : stepsOf (pos 1 ∷ pos 0 ∷ pos 0 ∷ pos 1 ∷ negsuc 0 ∷ pos 0 ∷ pos 0 ∷ negsuc 0
-    ∷ pos 1 ∷ pos 1 ∷ negsuc 0 ∷ pos 1 ∷ negsuc 0 ∷ negsuc 0 ∷ pos 1 ∷ negsuc 0 ∷ []) ≡ eightSteps
-unfolding stepsOf eightSteps stepBy
+pairs : stepsOf originalSteps ≡ eightSteps
+unfolding stepsOf originalSteps eightSteps stepBy
 pairs = refl
+
+-- ---- tables that a caller gives
+-- the diagonals before the others
+unfoldable pub diagonalsFirst : List ℤ
+diagonalsFirst =
+    pos 1 ∷ pos 1 ∷ negsuc 0 ∷ pos 1 ∷ negsuc 0 ∷ negsuc 0 ∷ pos 1 ∷ negsuc 0
+    ∷ pos 1 ∷ pos 0 ∷ pos 0 ∷ pos 1 ∷ negsuc 0 ∷ pos 0 ∷ pos 0 ∷ negsuc 0 ∷ []
+
+-- 15 and 17 numbers, none, the original's twice, a step twice and so one missing, and a pair that is no step
+unfoldable pub unfit : List (List ℤ)
+unfit =
+    take 15 originalSteps ∷ (originalSteps ++ pos 0 ∷ []) ∷ [] ∷ (originalSteps ++ originalSteps) ∷ (take 14 originalSteps ++ pos 1 ∷ pos 0 ∷ [])
+    ∷ (pos 2 ∷ drop 1 originalSteps) ∷ []
+
+tables : map tableFits (originalSteps ∷ diagonalsFirst ∷ unfit) ≡ true ∷ true ∷ replicate 6 false
+unfolding tableFits originalSteps diagonalsFirst unfit eachOnce stepsOf eightSteps stepBy sameStep eqZ allOf select
+tables = refl
+
+-- the row is a table and not a part of one: a pair after the eighth, or a number alone
+leftover : map (λ (more : List ℤ). tableFits (diagonalsFirst ++ more)) ([] ∷ (pos 0 ∷ []) ∷ (pos 1 ∷ pos 1 ∷ []) ∷ []) ≡ true ∷ false ∷ false ∷ []
+unfolding tableFits diagonalsFirst eachOnce stepsOf eightSteps stepBy sameStep eqZ allOf select
+leftover = refl
+
+-- each exactly once: not the eight and one of them again, nor the eight but one
+onceEach : map (λ (table : List ℤ). eachOnce (stepsOf table)) (originalSteps ∷ (originalSteps ++ pos 1 ∷ pos 0 ∷ []) ∷ take 14 originalSteps ∷ []) ≡ true ∷ false ∷ false ∷ []
+unfolding originalSteps eachOnce stepsOf eightSteps stepBy sameStep eqZ allOf select
+onceEach = refl
+
+-- in an open window of 4 × 4, from the first centre of row 1 to its last: straight on by the original's order, a row down and up again by the diagonals first
+byTable : List ℤ → Option (List ℕ)
+byTable table = route (windowEdges 4 4 (stepsOf table)) 16 (openBut []) 4 7
+
+ordered : (byTable originalSteps ≡ some (4 ∷ 5 ∷ 6 ∷ 7 ∷ [])) × (byTable diagonalsFirst ≡ some (4 ∷ 9 ∷ 6 ∷ 7 ∷ []))
+unfolding byTable openBut windowEdges edgesFrom edgeBy sidesFrom inside centre eqZ originalSteps diagonalsFirst stepsOf stepBy anyOf allOf select member neighbours known onward discover
+    sweep searchFrom anyRoute nodesOf route
+ordered = (refl, refl)
 
 -- Routes: a diagonal, and where either or both of its side centres are blocked; round a blocked middle, by the side that is tried first; a wall with no
 -- gap; equal ends, open and blocked; a blocked start; a blocked end.

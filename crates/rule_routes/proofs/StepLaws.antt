@@ -1,18 +1,40 @@
--- Tables of steps: one that holds each of the eight steps exactly once has no other and no repeat, whatever its order. The opposite of each stands in it.
-use mathlib.Core.Path.{_≡_, refl, sym, _∙_}
+-- Tables of steps: one that holds each of the eight steps exactly once has no other and no repeat, whatever its order. The opposite of each stands in it. Before that, a
+-- table read two numbers at a time.
+use Prim.Native.Nat.{ℕ, suc, _+_, _≤_, _<_}
+use mathlib.Core.Path.{_≡_, refl, sym, ap, _∙_}
 use mathlib.Core.Bool.{true, false, true≢false}
 use mathlib.Core.List.{List, [], _∷_, List·Memᴰ, List·Memᴰ·head, Memᴰ·cast}
 use native.Mathlib.Omega.{arith}
 use lib.Dec.{eqb}
-use lib.IntN.{ℤ, negℤ}
-use lib.ListN.{length}
+use lib.IntN.{ℤ, pos, negℤ}
+use lib.ListN.{length, getD, drop}
+use lib.Seq.{drop-cons}
 use lib.Signed.{leZ}
 use borrow.Author.Tests.{eqb-true}
 use Rattle.base_laws.specs.Lists.{anyOf, allOf, select, Distinct}
 use Rattle.base_laws.proofs.Ints.{leZ-fact, eq-parts}
 use Rattle.base_laws.proofs.Members.{both, any-member, none-member, all-member, filter-out}
 use Rattle.base_laws.proofs.Distinct.{sub-fills}
-use Rattle.rule_routes.specs.Edges.{Step, stepBy, eightSteps, eqZ, sameStep, eachOnce}
+use Rattle.rule_routes.specs.Edges.{Step, stepBy, eightSteps, stepsOf, eqZ, sameStep, eachOnce}
+
+-- the table from entry k on begins with one step, or has none left
+pub steps-cons : (table : List ℤ) (k : ℕ) → k + 1 < length table
+    → stepsOf (drop k table) ≡ stepBy (getD table k (pos 0)) (getD table (k + 1) (pos 0)) ∷ stepsOf (drop (k + 2) table)
+unfolding stepsOf
+steps-cons table k h =
+    let one : suc k ≡ k + 1 = omega arith in
+    let two : suc (k + 1) ≡ k + 2 = omega arith in
+    ap stepsOf
+    (drop-cons table k (pos 0) (omega arith)
+    ∙ ap (λ (n : ℕ). getD table k (pos 0) ∷ drop n table) one
+    ∙ ap (λ (l : List ℤ). getD table k (pos 0) ∷ l) (drop-cons table (k + 1) (pos 0) (omega arith))
+    ∙ ap (λ (n : ℕ). getD table k (pos 0) ∷ getD table (k + 1) (pos 0) ∷ drop n table) two)
+
+pub steps-few : (l : List ℤ) → length l ≤ 1 → stepsOf l ≡ []
+unfolding stepsOf
+steps-few [] h = refl
+steps-few (x ∷ []) h = refl
+steps-few (x ∷ y ∷ l) h = absurd (omega arith)
 
 pub eqZ-true : (a b : ℤ) → eqZ a b ≡ true → a ≡ b
 unfolding eqZ

@@ -1,4 +1,4 @@
--- The ground of a route: each node has edges, in the order in which they are tried. An edge is a target and the side nodes that must be open (RULES 1.5, 2.1, 2.2).
+-- The ground of a route: each node has edges, in the order in which they are tried. An edge is a target and the side nodes that must be open (RULES 1.5, 2.1, 2.2, 14.1).
 use Prim.Native.Nat.{ℕ, _+_, _*_, _/_, _%_}
 use mathlib.Core.Bool.{Bool, true, false, _&&_, _||_}
 use mathlib.Core.List.{List, [], _∷_, map}
@@ -40,6 +40,16 @@ sameStep s t = eqZ (s .dx) (t .dx) && eqZ (s .dy) (t .dy)
 -- each of the eight steps stands in the table exactly once, and nothing else does
 unfoldable pub eachOnce : List Step → Bool
 eachOnce steps = eqb (length steps) 8 && allOf (λ (s : Step). eqb (length (select (sameStep s) steps)) 1) eightSteps
+
+-- a table that a caller gives fits: sixteen numbers, eight x, y pairs, and each of the eight steps is one of them
+unfoldable pub tableFits : List ℤ → Bool
+tableFits table = eqb (length table) 16 && eachOnce (stepsOf table)
+
+-- the order of the eight above, as a table
+unfoldable pub originalSteps : List ℤ
+originalSteps =
+    pos 1 ∷ pos 0 ∷ pos 0 ∷ pos 1 ∷ negsuc 0 ∷ pos 0 ∷ pos 0 ∷ negsuc 0
+    ∷ pos 1 ∷ pos 1 ∷ negsuc 0 ∷ pos 1 ∷ negsuc 0 ∷ negsuc 0 ∷ pos 1 ∷ negsuc 0 ∷ []
 
 -- A window of so many columns and rows; its centres are numbered row × width + column.
 module _ (width height : ℕ) where

@@ -14,7 +14,6 @@ use Rattle.base_model.specs.declared.Answer.the-variants.{Done, Refused}
 use Rattle.base_model.specs.declared.Bounds.{Bounds}
 use Rattle.base_model.specs.declared.Limits.{Limits}
 use Rattle.base_model.specs.declared.Query.{Query}
-use Rattle.rule_routes.specs.Edges.{eightSteps}
 use Rattle.rule_layouts.specs.Flat.{inputsOf}
 use Rattle.rule_calls.specs.Areas.{Work}
 use Rattle.rule_calls.specs.Calls.{Prepared, prepareCall, beginCall}
@@ -25,41 +24,41 @@ use Rattle.sheet_rule.specs.Drive.{boundsOf, preparationOf, noBytes, noStore, s
 use Rattle.sheet_allowed.specs.Inner.{Flat}
 use Rattle.sheet_allowed.proofs.Given.{prepared-for, searched, fronts, refuses-front}
 
-module _ (s : Sheet) (across down : ℕ) (cells : List ℕ) (obstacles : List ℤ) (query : Query) (limits : Limits) (groups numbers : List ℕ) (edges : List ℤ)
+module _ (table : List ℤ) (s : Sheet) (across down : ℕ) (cells : List ℕ) (obstacles : List ℤ) (query : Query) (limits : Limits) (groups numbers : List ℕ) (edges : List ℤ)
     (h : Flat s across down cells obstacles query limits groups numbers edges) where
   module _ (m : List ℕ) (ms : List (List ℕ)) (b : Bounds) (e : b ≡ boundsOf m) (blockBase : List ℕ) (work : Work) (p : Prepared)
-      (ep : prepareCall eightSteps (preparation across down cells obstacles (query .window) (query .start) (query .end) b) noBytes work ≡ p) where
-    same : prepareCall eightSteps (preparationOf s m) noBytes work ≡ p
-    same = ap (λ q. prepareCall eightSteps q noBytes work) (sym (prepared-for s across down cells obstacles query limits groups numbers edges h b m e)) ∙ ep
+      (ep : prepareCall table (preparation across down cells obstacles (query .window) (query .start) (query .end) b) noBytes work ≡ p) where
+    same : prepareCall table (preparationOf s m) noBytes work ≡ p
+    same = ap (λ q. prepareCall table q noBytes work) (sym (prepared-for s across down cells obstacles query limits groups numbers edges h b m e)) ∙ ep
 
-    pub allow-refused : (x : Said) → p .answer ≡ some x → allowText eightSteps s (m ∷ ms) blockBase work ≡ refusalText x
+    pub allow-refused : (x : Said) → p .answer ≡ some x → allowText table s (m ∷ ms) blockBase work ≡ refusalText x
     unfolding allowText
     allow-refused x r = rw (allowText, same, r)
 
-    pub allow-searched : p .answer ≡ none → allowText eightSteps s (m ∷ ms) blockBase work ≡ searchText eightSteps s blockBase (p .baseline) (p .work)
+    pub allow-searched : p .answer ≡ none → allowText table s (m ∷ ms) blockBase work ≡ searchText table s blockBase (p .baseline) (p .work)
     unfolding allowText
-    allow-searched r = rw (allowText, same, r) (ap (λ (x : Prepared). searchText eightSteps s blockBase (x .baseline) (x .work)) same)
+    allow-searched r = rw (allowText, same, r) (ap (λ (x : Prepared). searchText table s blockBase (x .baseline) (x .work)) same)
 
 -- ---- the same in front of the area
-module _ (s : Sheet) (across down : ℕ) (cells : List ℕ) (obstacles : List ℤ) (query : Query) (limits : Limits) (groups numbers : List ℕ) (edges : List ℤ)
+module _ (table : List ℤ) (s : Sheet) (across down : ℕ) (cells : List ℕ) (obstacles : List ℤ) (query : Query) (limits : Limits) (groups numbers : List ℕ) (edges : List ℤ)
     (h : Flat s across down cells obstacles query limits groups numbers edges) (o : Answer) (base : List ℕ) (work′ : Work) (before out : List ℕ) (n : ℕ) where
   abbrev gave : Prepared
   gave = record { answer = replyOf o; baseline = base; work = work′ }
 
   module _ (m : List ℕ) (ms : List (List ℕ)) (b : Bounds) (e : b ≡ boundsOf m) (blockBase : List ℕ) (work : Work)
-      (ep : prepareCall eightSteps (preparation across down cells obstacles (query .window) (query .start) (query .end) b) noBytes work ≡ gave) where
-    pub allowed-refused : (x : Refusal) → o ≡ Refused x → enough ≤ length before → Put (refusalText (saidOf x)) before 0 out n → Front (allowText eightSteps s (m ∷ ms) blockBase work) before out n
+      (ep : prepareCall table (preparation across down cells obstacles (query .window) (query .start) (query .end) b) noBytes work ≡ gave) where
+    pub allowed-refused : (x : Refusal) → o ≡ Refused x → enough ≤ length before → Put (refusalText (saidOf x)) before 0 out n → Front (allowText table s (m ∷ ms) blockBase work) before out n
     unfolding replyOf
     allowed-refused x q room k =
-        refuses-front x (allowText eightSteps s (m ∷ ms) blockBase work) before out n room
-        (allow-refused s across down cells obstacles query limits groups numbers edges h m ms b e blockBase work gave ep (saidOf x) (ap replyOf q)) k
+        refuses-front x (allowText table s (m ∷ ms) blockBase work) before out n room
+        (allow-refused table s across down cells obstacles query limits groups numbers edges h m ms b e blockBase work gave ep (saidOf x) (ap replyOf q)) k
 
     pub allowed-searched : o ≡ Done
-        → Front (stepText eightSteps (inputsOf query groups numbers edges blockBase base) limits
-        (beginCall eightSteps (inputsOf query groups numbers edges blockBase base) limits work′ noStore)) before out n
-        → Front (allowText eightSteps s (m ∷ ms) blockBase work) before out n
+        → Front (stepText table (inputsOf query groups numbers edges blockBase base) limits
+        (beginCall table (inputsOf query groups numbers edges blockBase base) limits work′ noStore)) before out n
+        → Front (allowText table s (m ∷ ms) blockBase work) before out n
     unfolding replyOf
     allowed-searched q k =
         fronts _ _ before out n
-        (allow-searched s across down cells obstacles query limits groups numbers edges h m ms b e blockBase work gave ep (ap replyOf q)
-        ∙ searched s across down cells obstacles query limits groups numbers edges h blockBase base work′) k
+        (allow-searched table s across down cells obstacles query limits groups numbers edges h m ms b e blockBase work gave ep (ap replyOf q)
+        ∙ searched s across down cells obstacles query limits groups numbers edges h table blockBase base work′) k

@@ -12,7 +12,6 @@ use Rattle.base_model.specs.declared.Refusal.{Refusal}
 use Rattle.base_model.specs.declared.Bounds.{Bounds}
 use Rattle.base_model.specs.declared.Limits.{Limits}
 use Rattle.base_model.specs.declared.Query.{Query}
-use Rattle.rule_routes.specs.Edges.{eightSteps}
 use Rattle.rule_layouts.specs.Flat.{inputsOf}
 use Rattle.rule_calls.specs.Areas.{Work}
 use Rattle.rule_calls.specs.Calls.{beginCall}
@@ -30,11 +29,11 @@ module _ (s : Sheet) (across down : ℕ) (cells : List ℕ) (obstacles : List �
   unfolding preparationOf queryOf
   prepared-for b m e = rw (h .across-is, h .down-is, h .cells-are, h .obstacles-are, h .query-is, e)
 
-  pub searched : (blockBase allowBase : List ℕ) (work : Work)
-      → searchText eightSteps s blockBase allowBase work
-      ≡ stepText eightSteps (inputsOf query groups numbers edges blockBase allowBase) limits (beginCall eightSteps (inputsOf query groups numbers edges blockBase allowBase) limits work noStore)
+  pub searched : (table : List ℤ) (blockBase allowBase : List ℕ) (work : Work)
+      → searchText table s blockBase allowBase work
+      ≡ stepText table (inputsOf query groups numbers edges blockBase allowBase) limits (beginCall table (inputsOf query groups numbers edges blockBase allowBase) limits work noStore)
   unfolding searchText inputsFor
-  searched blockBase allowBase work = rw (h .query-is, h .limits-are, h .groups-are, h .numbers-are, h .edges-are)
+  searched table blockBase allowBase work = rw (h .query-is, h .limits-are, h .groups-are, h .numbers-are, h .edges-are)
 
 -- ---- a text in front of the area
 pub fronts : (w v before out : List ℕ) (n : ℕ) → v ≡ w → Front w before out n → Front v before out n

@@ -8,7 +8,6 @@ ghost use mathlib.Core.Path.{_≡_};
 ghost use Prim.Native.Nat.{ℕ, _≤_};
 ghost use lib.ListN.{length};
 ghost use mathlib.Core.List.{List, _∷_};
-ghost use Rattle.rule_routes.specs.Edges.{eightSteps};
 ghost use Rattle.rule_calls.specs.Areas.{workIn};
 ghost use Rattle.sheet_texts.specs.Parts.{enough, Front};
 ghost use Rattle.sheet_form.specs.Sheets.{Sheet};
@@ -28,6 +27,7 @@ pub fn allowed(
     numbers: &[u32],
     edges: &[i32],
     block_base: &[u8],
+    steps: &[i32],
     counts: &mut [i32],
     map: &mut [u8],
     queue: &mut [u32],
@@ -42,7 +42,7 @@ pub fn allowed(
         (now (groups .entry)) (now (numbers .entry)) (now (edges .entry))
         → mover ≡ boundsOf m
         → Front
-        (allowText eightSteps s (m ∷ ms) (now («block_base» .entry))
+        (allowText (now (steps .entry)) s (m ∷ ms) (now («block_base» .entry))
         (workIn (now (counts .entry)) (now (map .entry)) (now (queue .entry))
         (now (predecessors .entry)) (now (route .entry))))
         (now (out .entry)) (now (out .exit)) r)
@@ -61,6 +61,7 @@ pub fn allowed(
         start,
         end,
         mover,
+        steps,
         &mut allow_base,
         counts,
         map,
@@ -79,6 +80,7 @@ pub fn allowed(
         edges,
         block_base,
         &allow_base,
+        steps,
         counts,
         map,
         queue,

@@ -7,7 +7,7 @@ use native.Mathlib.Omega.{arith}
 use lib.ListN.{length}
 use borrow.Author.Tests.{leb-true}
 use Rattle.base_model.specs.Answers.{refusal}
-use Rattle.rule_routes.specs.Edges.{eightSteps}
+use Rattle.rule_routes.specs.Edges.{originalSteps}
 use Rattle.sheet_texts.specs.Parts.{Front}
 use Rattle.sheet_texts.specs.Texts.{refusalText}
 use Rattle.sheet_read.specs.Answers.{SheetGot, SheetNot, SheetBy, SheetRead}
@@ -59,5 +59,5 @@ module _ (text : List ℕ) (k : Counts) (fixed cells obstacles groups places : L
   pub answer-over : capsLeft fixed ≡ false → Front (refusalText (refusal 18)) before out n → Answers text before out (answered.Written n)
   answer-over e = written text (refusalText (refusal 18)) before out n (turned (refused text k fixed cells obstacles groups places g e))
 
-  pub answer-driven : length text ≤ 8192 → capsLeft fixed ≡ true → Front (driveText eightSteps (g .value)) before out n → Answers text before out (answered.Written n)
-  answer-driven short e = written text (driveText eightSteps (g .value)) before out n (driven (g .value) (accepted text k fixed cells obstacles groups places g short e))
+  pub answer-driven : length text ≤ 8192 → capsLeft fixed ≡ true → Front (driveText originalSteps (g .value)) before out n → Answers text before out (answered.Written n)
+  answer-driven short e = written text (driveText originalSteps (g .value)) before out n (driven (g .value) (accepted text k fixed cells obstacles groups places g short e))

@@ -7,7 +7,6 @@ use sheet_form::MOST_CENTRES;
 use sheet_form::MOST_COUNTS;
 ghost use Prim.Native.Nat.{_≤_};
 ghost use lib.ListN.{length};
-ghost use Rattle.rule_routes.specs.Edges.{eightSteps};
 ghost use Rattle.sheet_texts.specs.Parts.{enough, Front};
 ghost use Rattle.sheet_form.specs.Sheets.{Sheet};
 ghost use Rattle.sheet_rule.specs.Drive.{driveText};
@@ -24,6 +23,7 @@ pub fn drive(
     groups: &[u32],
     numbers: &[u32],
     edges: &[i32],
+    steps: &[i32],
     out: &mut [u8],
 ) -> usize
     requires { ⌜ enough ≤ length (now out) ⌝ }
@@ -31,7 +31,7 @@ pub fn drive(
         ((s : Sheet)
         → Flat s across down (now (cells .entry)) (now (obstacles .entry)) query limits
         (now (groups .entry)) (now (numbers .entry)) (now (edges .entry))
-        → Front (driveText eightSteps s) (now (out .entry)) (now (out .exit)) r)
+        → Front (driveText (now (steps .entry)) s) (now (out .entry)) (now (out .exit)) r)
         ⌝ }
 {
     let mut block_base = [0u8; MOST_CENTRES];
@@ -53,6 +53,7 @@ pub fn drive(
         start,
         end,
         block,
+        steps,
         &mut block_base,
         &mut counts,
         &mut map,
@@ -77,6 +78,7 @@ pub fn drive(
             numbers,
             edges,
             &block_base,
+            steps,
             &mut counts,
             &mut map,
             &mut queue,
@@ -94,6 +96,7 @@ pub fn drive(
         edges,
         &block_base,
         &no_base,
+        steps,
         &mut counts,
         &mut map,
         &mut queue,

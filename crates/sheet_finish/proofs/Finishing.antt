@@ -5,6 +5,7 @@ use mathlib.Core.Option.{none, some}
 use mathlib.Core.Bool.{true, _&&_}
 use mathlib.Core.List.{List, [], _∷_, _++_}
 use lib.Dec.{leb}
+use lib.IntN.{ℤ}
 use borrow.Author.Tests.{leb-true}
 use Rattle.base_laws.proofs.Members.{both}
 use Rattle.base_model.proofs.Asking.{ask-passes, first-passes}
@@ -17,14 +18,14 @@ use Rattle.base_model.specs.declared.Answer.{Answer}
 use Rattle.base_model.specs.declared.Answer.the-variants.{Done, Refused}
 use Rattle.base_model.specs.declared.Limits.{Limits}
 use Rattle.base_model.specs.declared.Record.{Record}
-use Rattle.rule_routes.specs.Edges.{eightSteps}
-use Rattle.rule_routes.proofs.StepLaws.{eight-once}
+use Rattle.rule_routes.specs.Edges.{stepsOf}
 use Rattle.rule_layouts.specs.Inputs.{Inputs}
 use Rattle.rule_calls.specs.Areas.{Work, Store}
 use Rattle.rule_calls.specs.Calls.{After, stepCall}
 use Rattle.rule_calls.proofs.Whole.{Shape}
 use Rattle.rule_calls.proofs.Sound.{sound, long}
-use Rattle.rule_calls.proofs.StepLaws.{first-both, step-checks, step-passed, step-accepted}
+use Rattle.rule_calls.proofs.StepLaws.{first-both, step-checks, step-passed}
+use Rattle.rule_calls.proofs.Tables.{table-once, step-over, step-table, call-step-accepted}
 use Rattle.sheet_texts.specs.Parts.{enough, Front, Writable}
 use Rattle.sheet_texts.specs.Texts.{refusalText, resultText}
 use Rattle.sheet_texts.proofs.Lengths.{Words, result-short}
@@ -54,13 +55,17 @@ record Leaves (r : Record) (a : Store) : Type 0 where
   evaluations : r .evaluations ≤ 100000
   placements : r .placements ≤ 6144
 
-after-leaves : (i : Inputs) (l : Limits) (r : Record) (n : ℕ) (work : Work) (store : Store) (a : After) → Shape r → stepCall eightSteps i l r n work store ≡ a → a .answer ≡ none
-    → length (a .store .points) ≤ 16384 → Leaves (a .rec) (a .store)
-after-leaves i l r n work store a shape e ok few =
-    let yes : stepCall eightSteps i l r n work store .answer ≡ none = ap (λ (x : After). x .answer) e ∙ ok in
-    let again : stepCall eightSteps i l (a .rec) 0 (a .work) (a .store) .answer ≡ none =
-    subst (λ (x : After). stepCall eightSteps i l (x .rec) 0 (x .work) (x .store) .answer ≡ none) e (step-accepted eightSteps eight-once i l r work store shape n yes n 0) in
-    let p = step-passed eightSteps eight-once i l (a .rec) (a .work) (a .store) (step-checks eightSteps eight-once i l (a .rec) (a .work) (a .store) 0 again) in
+after-leaves : (table : List ℤ) (i : Inputs) (l : Limits) (r : Record) (n : ℕ) (work : Work) (store : Store) (a : After) → Shape r
+    → stepCall table i l r n work store ≡ a → a .answer ≡ none → length (a .store .points) ≤ 16384 → Leaves (a .rec) (a .store)
+after-leaves table i l r n work store a shape e ok few =
+    let yes : stepCall table i l r n work store .answer ≡ none = ap (λ (x : After). x .answer) e ∙ ok in
+    let again : stepCall table i l (a .rec) 0 (a .work) (a .store) .answer ≡ none =
+    subst (λ (x : After). stepCall table i l (x .rec) 0 (x .work) (x .store) .answer ≡ none) e (call-step-accepted table i l r work store shape n yes n 0) in
+    let fits = step-table table i l r n work store yes in
+    let over = sym (ap (λ (x : After). x .answer) (step-over table fits i l (a .rec) 0 (a .work) (a .store))) ∙ again in
+    let steps = stepsOf table in
+    let once = table-once table fits in
+    let p = step-passed steps once i l (a .rec) (a .work) (a .store) (step-checks steps once i l (a .rec) (a .work) (a .store) 0 over) in
     let s = sound i (a .rec) (a .store) l (p .fits) in
     let g = long i l (a .store) (p .areas) in
     record {
@@ -76,19 +81,19 @@ after-leaves i l r n work store a shape e ok few =
     }
 
 -- ---- a step of a begun search, written
-module _ (i : Inputs) (l : Limits) (r : Record) (work : Work) (store : Store) (o : Answer) (r′ : Record) (work′ : Work) (store′ : Store)
-    (e : stepCall eightSteps i l r (l .states) work store ≡ record { answer = replyOf o; rec = r′; work = work′; store = store′ }) (before out : List ℕ) (n : ℕ) where
+module _ (table : List ℤ) (i : Inputs) (l : Limits) (r : Record) (work : Work) (store : Store) (o : Answer) (r′ : Record) (work′ : Work) (store′ : Store)
+    (e : stepCall table i l r (l .states) work store ≡ record { answer = replyOf o; rec = r′; work = work′; store = store′ }) (before out : List ℕ) (n : ℕ) where
   abbrev begunBy : After
   begunBy = record { answer = none; rec = r; work = work; store = store }
 
   abbrev leftBy : After
   leftBy = record { answer = replyOf o; rec = r′; work = work′; store = store′ }
 
-  pub finish-refused : (x : Refusal) → o ≡ Refused x → enough ≤ length before → Put (refusalText (saidOf x)) before 0 out n → Front (stepText eightSteps i l begunBy) before out n
+  pub finish-refused : (x : Refusal) → o ≡ Refused x → enough ≤ length before → Put (refusalText (saidOf x)) before 0 out n → Front (stepText table i l begunBy) before out n
   unfolding stepText replyOf
   finish-refused x q room h =
       let a : replyOf o ≡ some (saidOf x) = ap replyOf q in
-      let same : stepText eightSteps i l begunBy ≡ refusalText (saidOf x) = rw (stepText, e, a) in
+      let same : stepText table i l begunBy ≡ refusalText (saidOf x) = rw (stepText, e, a) in
       subst (λ (w : List ℕ). Front w before out n) (sym same) (in-front (refusalText (saidOf x)) before out n (omega (arith, refusal-short x)) h)
 
   module _ (q : o ≡ Done) (h : Steppable r (store′ .points) before) where
@@ -97,16 +102,16 @@ module _ (i : Inputs) (l : Limits) (r : Record) (work : Work) (store : Store) (o
     none-said = ap replyOf q
 
     leaves : Leaves r′ store′
-    leaves = after-leaves i l r (l .states) work store leftBy (record { routes = h .routes; lengths = h .lengths; nexts = h .nexts }) e none-said (h .few)
+    leaves = after-leaves table i l r (l .states) work store leftBy (record { routes = h .routes; lengths = h .lengths; nexts = h .nexts }) e none-said (h .few)
 
     pub finish-writable : Writable (r′ .layouts) (r′ .routes) (store′ .layouts) (store′ .points)
     finish-writable = leaves .writable
 
     pub finish-written : Words (store′ .layouts) (store′ .points) → Put (resultText r′ store′) before 0 out n
-        → Front (stepText eightSteps i l begunBy) before out n
+        → Front (stepText table i l begunBy) before out n
     unfolding stepText
     finish-written v k =
         let x : r′ .evaluations < 4294967296 = omega (arith, leaves .evaluations) in
         let y : r′ .placements < 4294967296 = omega (arith, leaves .placements) in
-        let same : stepText eightSteps i l begunBy ≡ resultText r′ store′ = rw (stepText, e, none-said) (ap (λ (z : After). resultText (z .rec) (z .store)) e) in
+        let same : stepText table i l begunBy ≡ resultText r′ store′ = rw (stepText, e, none-said) (ap (λ (z : After). resultText (z .rec) (z .store)) e) in
         subst (λ (w : List ℕ). Front w before out n) (sym same) (in-front (resultText r′ store′) before out n (omega (arith, h .room, result-short r′ store′ finish-writable v x y)) k)

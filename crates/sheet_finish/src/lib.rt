@@ -4,7 +4,6 @@ use base_model::Limits;
 use base_model::Query;
 use base_model::Record;
 ghost use mathlib.Core.Option.{none};
-ghost use Rattle.rule_routes.specs.Edges.{eightSteps};
 ghost use Rattle.rule_layouts.specs.Flat.{inputsOf};
 ghost use Rattle.rule_calls.specs.Areas.{workIn, storeIn};
 ghost use Rattle.sheet_texts.specs.Parts.{Front};
@@ -20,6 +19,7 @@ pub fn finish(
     edges: &[i32],
     block_base: &[u8],
     allow_base: &[u8],
+    steps: &[i32],
     rec: Record,
     counts: &mut [i32],
     map: &mut [u8],
@@ -35,7 +35,7 @@ pub fn finish(
     requires { ⌜ Steppable rec (now points) (now out) ⌝ }
     ensures { λ r. ⌜
         Front
-        (stepText eightSteps
+        (stepText (now (steps .entry))
         (inputsOf query (now (groups .entry)) (now (numbers .entry)) (now (edges .entry))
         (now («block_base» .entry)) (now («allow_base» .entry)))
         limits
@@ -59,6 +59,7 @@ pub fn finish(
         edges,
         block_base,
         allow_base,
+        steps,
         rec,
         limits.states,
         counts,

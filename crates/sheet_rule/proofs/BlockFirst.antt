@@ -6,7 +6,7 @@ use mathlib.Core.Bool.{true}
 use mathlib.Core.List.{List, [], _∷_}
 use lib.Dec.{leb}
 use lib.ListN.{length}
-use Rattle.rule_routes.specs.Edges.{eightSteps}
+use Rattle.rule_routes.specs.Edges.{originalSteps}
 use Rattle.text_forms.specs.Forms.{decimal, decimalBy, signed}
 use Rattle.text_forms.specs.Patterns.{bytes, is}
 use Rattle.rule_calls.proofs.Computing.{computing}
@@ -36,11 +36,11 @@ offStart = 1 ∷ 0 ∷ 0 ∷ 0 ∷ []
 abbrev pub offEnd : List ℕ
 offEnd = 0 ∷ 0 ∷ 4 ∷ 0 ∷ []
 
-seven : driveText eightSteps (Both offStart offEnd) ≡ bytes "(refused 7)\n"
+seven : driveText originalSteps (Both offStart offEnd) ≡ bytes "(refused 7)\n"
 unfolding Both driving
 seven = refl
 
-eight : driveText eightSteps (Both offEnd offStart) ≡ bytes "(refused 8)\n"
+eight : driveText originalSteps (Both offEnd offStart) ≡ bytes "(refused 8)\n"
 unfolding Both driving
 eight = refl
 
@@ -79,7 +79,7 @@ capped-Both block allow = refl
 
 -- what is told of a text that spells two such movers
 told : (block allow text answer : List ℕ) → is "(block $ $ $ $)\n" .fits block → is "(allow $ $ $ $)\n" .fits allow → leb (length text) 8192 ≡ true → sheet .spell (Both block allow) ≡ text
-    → driveText eightSteps (Both block allow) ≡ answer → AnswerOf text answer
+    → driveText originalSteps (Both block allow) ≡ answer → AnswerOf text answer
 told block allow text answer b a short spelled e =
     subst (λ (l : List ℕ). AnswerOf text l) e (driven (Both block allow) (record { short = short; fits = fits-Both block allow b a; spelled = spelled; capped = capped-Both block allow }))
 

@@ -6,7 +6,7 @@ use mathlib.Core.Bool.{true}
 use mathlib.Core.List.{List, [], _∷_, _++_}
 use lib.Dec.{leb}
 use lib.ListN.{length}
-use Rattle.rule_routes.specs.Edges.{eightSteps}
+use Rattle.rule_routes.specs.Edges.{originalSteps}
 use Rattle.text_forms.specs.Forms.{decimal, decimalBy, signed}
 use Rattle.text_forms.specs.Patterns.{bytes}
 use Rattle.rule_calls.proofs.Computing.{computing}
@@ -58,7 +58,7 @@ P = record {
       ∷ [];
 }
 
-drive-P : driveText eightSteps P ≡ bytes "(result Exhausted 4 3 2)\n(layout 0 (0) ())\n(layout 1 (1 2) ())\n"
+drive-P : driveText originalSteps P ≡ bytes "(result Exhausted 4 3 2)\n(layout 0 (0) ())\n(layout 1 (1 2) ())\n"
 unfolding P driving
 drive-P = refl
 

@@ -12,7 +12,7 @@ use Rattle.base_model.specs.declared.Allow.{Allow}
 use Rattle.base_model.specs.declared.Allow.the-variants.{Nobody, Bounded}
 use Rattle.base_model.specs.declared.Limits.{Limits}
 use Rattle.base_model.specs.declared.Query.{Query}
-use Rattle.rule_routes.specs.Edges.{Step, eightSteps}
+use Rattle.rule_routes.specs.Edges.{originalSteps}
 use Rattle.rule_layouts.specs.Inputs.{Inputs}
 use Rattle.rule_layouts.specs.Flat.{inputsOf}
 use Rattle.rule_calls.specs.Areas.{Work, Store, workIn, storeIn}
@@ -68,33 +68,33 @@ unfoldable pub noStore : Store
 noStore = storeIn (replicate 384 0) (replicate 3500 0) (replicate 224 0) (replicate 16384 0)
 
 -- ---- the drive
--- each call works in what the one before it left
-unfoldable pub stepText : List Step → Inputs → Limits → After → List ℕ
-stepText steps i l b =
+-- each call works in what the one before it left; the table of steps is the same in all
+unfoldable pub stepText : (table : List ℤ) → Inputs → Limits → After → List ℕ
+stepText table i l b =
     elim (b .answer) [
       | some r ↦ refusalText r
       | none ↦
-          let a : After = stepCall steps i l (b .rec) (l .states) (b .work) (b .store) in
+          let a : After = stepCall table i l (b .rec) (l .states) (b .work) (b .store) in
           elim (a .answer) [ some r ↦ refusalText r | none ↦ resultText (a .rec) (a .store) ]
     ]
 
-unfoldable pub searchText : List Step → Sheet → (blockBase allowBase : List ℕ) → Work → List ℕ
-searchText steps s blockBase allowBase work =
+unfoldable pub searchText : (table : List ℤ) → Sheet → (blockBase allowBase : List ℕ) → Work → List ℕ
+searchText table s blockBase allowBase work =
     let i : Inputs = inputsFor s blockBase allowBase in
-    stepText steps i (limitsOf s) (beginCall steps i (limitsOf s) work noStore)
+    stepText table i (limitsOf s) (beginCall table i (limitsOf s) work noStore)
 
-unfoldable pub allowText : List Step → Sheet → List (List ℕ) → (blockBase : List ℕ) → Work → List ℕ
-allowText steps s [] blockBase work = searchText steps s blockBase noBytes work
-allowText steps s (m ∷ ms) blockBase work =
-    let p : Prepared = prepareCall steps (preparationOf s m) noBytes work in
-    elim (p .answer) [ some r ↦ refusalText r | none ↦ searchText steps s blockBase (p .baseline) (p .work) ]
+unfoldable pub allowText : (table : List ℤ) → Sheet → List (List ℕ) → (blockBase : List ℕ) → Work → List ℕ
+allowText table s [] blockBase work = searchText table s blockBase noBytes work
+allowText table s (m ∷ ms) blockBase work =
+    let p : Prepared = prepareCall table (preparationOf s m) noBytes work in
+    elim (p .answer) [ some r ↦ refusalText r | none ↦ searchText table s blockBase (p .baseline) (p .work) ]
 
-unfoldable pub driveText : List Step → Sheet → List ℕ
-driveText steps s =
-    let p : Prepared = prepareCall steps (preparationOf s (s .block)) noBytes noWork in
-    elim (p .answer) [ some r ↦ refusalText r | none ↦ allowText steps s (s .allow) (p .baseline) (p .work) ]
+unfoldable pub driveText : (table : List ℤ) → Sheet → List ℕ
+driveText table s =
+    let p : Prepared = prepareCall table (preparationOf s (s .block)) noBytes noWork in
+    elim (p .answer) [ some r ↦ refusalText r | none ↦ allowText table s (s .allow) (p .baseline) (p .work) ]
 
--- the answer to a text: its sheet's, if it is accepted as one, and otherwise 18
+-- the answer to a text: its sheet's by the original's order of steps, if it is accepted as one, and otherwise 18
 pub data AnswerOf (text : List ℕ) : List ℕ → Type 0 where
-  driven : (s : Sheet) → Accepted text s → AnswerOf text (driveText eightSteps s)
+  driven : (s : Sheet) → Accepted text s → AnswerOf text (driveText originalSteps s)
   turned : ((s : Sheet) → Accepted text s → ⊥) → AnswerOf text (refusalText (refusal 18))

@@ -10,7 +10,6 @@ use sheet_form::MOST_PLACES;
 use sheet_form::MOST_STATES;
 ghost use Prim.Native.Nat.{_≤_};
 ghost use lib.ListN.{length};
-ghost use Rattle.rule_routes.specs.Edges.{eightSteps};
 ghost use Rattle.rule_layouts.specs.Flat.{inputsOf};
 ghost use Rattle.rule_calls.specs.Areas.{workIn};
 ghost use Rattle.rule_calls.specs.Calls.{beginCall};
@@ -26,6 +25,7 @@ pub fn search(
     edges: &[i32],
     block_base: &[u8],
     allow_base: &[u8],
+    steps: &[i32],
     counts: &mut [i32],
     map: &mut [u8],
     queue: &mut [u32],
@@ -36,11 +36,11 @@ pub fn search(
     requires { ⌜ enough ≤ length (now out) ⌝ }
     ensures { λ r. ⌜
         Front
-        (stepText eightSteps
+        (stepText (now (steps .entry))
         (inputsOf query (now (groups .entry)) (now (numbers .entry)) (now (edges .entry))
         (now («block_base» .entry)) (now («allow_base» .entry)))
         limits
-        (beginCall eightSteps
+        (beginCall (now (steps .entry))
         (inputsOf query (now (groups .entry)) (now (numbers .entry)) (now (edges .entry))
         (now («block_base» .entry)) (now («allow_base» .entry)))
         limits
@@ -62,6 +62,7 @@ pub fn search(
         edges,
         block_base,
         allow_base,
+        steps,
         counts,
         map,
         queue,
@@ -85,6 +86,7 @@ pub fn search(
         edges,
         block_base,
         allow_base,
+        steps,
         rec,
         counts,
         map,

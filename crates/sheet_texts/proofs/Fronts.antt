@@ -9,7 +9,7 @@ use Rattle.base_model.specs.Answers.{Said, refusal, saidOf}
 use Rattle.base_model.specs.declared.Refusal.{Refusal}
 use Rattle.base_model.specs.declared.Refusal.the-variants.{MapInvalid, WindowInvalid, EndOutside, BoundTooLarge, ObstacleInvalid, AreaTooShort, StartBlocked, EndBlocked, NoRoute}
 use Rattle.base_model.specs.declared.Refusal.the-variants.{GroupsInvalid, StateLimitInvalid, ResultLimitInvalid, TooManyPlacements, PlacementInvalid}
-use Rattle.base_model.specs.declared.Refusal.the-variants.{RectangleEmpty, RecordInvalid, SelectionInvalid, CountOutOfRange}
+use Rattle.base_model.specs.declared.Refusal.the-variants.{RectangleEmpty, RecordInvalid, SelectionInvalid, StepsInvalid, CountOutOfRange}
 use Rattle.text_forms.specs.Forms.{decimal}
 use Rattle.text_forms.specs.Patterns.{bytes}
 use Rattle.text_forms.specs.Writing.{Put}
@@ -48,6 +48,7 @@ said-small (PlacementInvalid i) = omega arith
 said-small RectangleEmpty = omega arith
 said-small RecordInvalid = omega arith
 said-small SelectionInvalid = omega arith
+said-small StepsInvalid = omega arith
 said-small CountOutOfRange = omega arith
 
 pub refusal-short : (r : Refusal) → length (refusalText (saidOf r)) ≤ 64

@@ -22,7 +22,7 @@ ghost use mathlib.Core.Path.{_≡_};
 ghost use Prim.Native.Nat.{_+_, _*_, _≤_};
 ghost use lib.ListN.{length, drop};
 ghost use Rattle.base_laws.specs.Fill.{filled};
-ghost use Rattle.rule_routes.specs.Edges.{eightSteps};
+ghost use Rattle.rule_routes.specs.Edges.{originalSteps};
 ghost use Rattle.sheet_texts.specs.Parts.{enough, Front};
 ghost use Rattle.sheet_form.specs.Sheets.{Sheet, sheet};
 ghost use Rattle.sheet_read.specs.Answers.{SheetHeld};
@@ -148,7 +148,7 @@ fn drive_front(
         ((s : Sheet)
         → FlatIn s k (now (fixed .entry)) (now (cells .entry)) (now (sides .entry))
         (now (groups .entry)) (now (numbers .entry)) (now (edges .entry))
-        → Front (driveText eightSteps s) (now (out .entry)) (now (out .exit)) r)
+        → Front (driveText originalSteps s) (now (out .entry)) (now (out .exit)) r)
         ⌝ }
 {
     let query = query_in(fixed, k.allow);
@@ -158,6 +158,7 @@ fn drive_front(
     let g = k.groups;
     let n = NUMBERS * k.places;
     let e = EDGES * k.places;
+    let steps = route_table::original_steps();
     sheet_drive::drive(
         fixed[0],
         fixed[1],
@@ -168,6 +169,7 @@ fn drive_front(
         &groups[..g],
         &numbers[..n],
         &edges[..e],
+        &steps,
         out,
     )
 }
@@ -189,7 +191,7 @@ pub fn driven(
         → sheet .fits s
         → SheetHeld s k (now (fixed .entry)) (now (cells .entry)) (now (obstacles .entry))
         (now (groups .entry)) (now (places .entry))
-        → Front (driveText eightSteps s) (now (out .entry)) (now (out .exit)) r)
+        → Front (driveText originalSteps s) (now (out .entry)) (now (out .exit)) r)
         ⌝ }
 {
     let mut sides = [0i32; SIDES * MOST_OBSTACLES];

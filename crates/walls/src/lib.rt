@@ -1,6 +1,9 @@
 // The calls (RULES 7): the search record lent, the placements lent as a row of records. Each contract stands with its function, in the
 // crate that the call is handed on from.
 
+// The order of steps of the original, as a table.
+pub use route_table::original_steps;
+
 // Marks a mover's baseline. This call and the next two are the calls by value: they take neither placements nor a record.
 pub use call_prepare::prepare;
 

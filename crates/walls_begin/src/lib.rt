@@ -14,7 +14,6 @@ ghost use mathlib.Core.List.{List};
 ghost use lib.ListN.{length};
 ghost use Rattle.base_model.specs.Answers.{replyOf};
 ghost use Rattle.base_model.specs.declared.Placement.{Placement};
-ghost use Rattle.rule_routes.specs.Edges.{eightSteps};
 ghost use Rattle.rule_calls.specs.Areas.{workIn, storeIn};
 ghost use Rattle.rule_calls.specs.Calls.{beginCall};
 ghost use Rattle.walls_rows.specs.Rows.{rowsOf};
@@ -29,6 +28,7 @@ fn begin_core(
     count: usize,
     block_base: &[u8],
     allow_base: &[u8],
+    steps: &[i32],
     counts: &mut [i32],
     map: &mut [u8],
     queue: &mut [u32],
@@ -41,7 +41,7 @@ fn begin_core(
 ) -> Reply
     ensures { λ r. ⌜
         ((ps : List Placement) → rows ≡ rowsOf ps → count ≡ length ps
-        → beginCall eightSteps
+        → beginCall (now (steps .entry))
         (given query (now (groups .entry)) ps (now («block_base» .entry)) (now («allow_base» .entry)))
         limits
         (workIn (now (counts .entry)) (now (map .entry)) (now (queue .entry)) (now (predecessors .entry)) (now (route .entry)))
@@ -68,6 +68,7 @@ fn begin_core(
         &edges[..eights],
         block_base,
         allow_base,
+        steps,
         counts,
         map,
         queue,
@@ -88,6 +89,7 @@ pub fn begin(
     places: &[Placement],
     block_base: &[u8],
     allow_base: &[u8],
+    steps: &[i32],
     counts: &mut [i32],
     map: &mut [u8],
     queue: &mut [u32],
@@ -99,7 +101,7 @@ pub fn begin(
     points: &mut [u32],
 ) -> Reply
     ensures { λ r. ⌜
-        beginCall eightSteps
+        beginCall (now (steps .entry))
         (given query (now (groups .entry)) (now (places .entry)) (now («block_base» .entry)) (now («allow_base» .entry)))
         limits
         (workIn (now (counts .entry)) (now (map .entry)) (now (queue .entry)) (now (predecessors .entry)) (now (route .entry)))
@@ -121,6 +123,7 @@ pub fn begin(
         places.len(),
         block_base,
         allow_base,
+        steps,
         counts,
         map,
         queue,

@@ -32,6 +32,7 @@ pub extern "C" fn hitrovzen_prepare(
     mover_top: u32,
     mover_right: u32,
     mover_bottom: u32,
+    steps: &[i32],
     baseline: &mut [u8],
     counts: &mut [i32],
     map: &mut [u8],
@@ -40,7 +41,7 @@ pub extern "C" fn hitrovzen_prepare(
     route: &mut [u32],
 ) -> u32
     ensures { λ r. ⌜
-        prepareOn
+        prepareOn (now (steps .entry))
         (preparation across down (now (cells .entry)) (now (obstacles .entry))
         (rect «window_left» «window_top» «window_right» «window_bottom»)
         (record { x = «start_x»; y = «start_y» }) (record { x = «end_x»; y = «end_y» })
@@ -80,6 +81,7 @@ pub extern "C" fn hitrovzen_prepare(
         start,
         end,
         mover,
+        steps,
         baseline,
         counts,
         map,
@@ -210,6 +212,7 @@ pub extern "C" fn hitrovzen_begin(
     edges: &[i32],
     block_base: &[u8],
     allow_base: &[u8],
+    steps: &[i32],
     rec: &mut [u32],
     counts: &mut [i32],
     map: &mut [u8],
@@ -223,7 +226,7 @@ pub extern "C" fn hitrovzen_begin(
     index: &mut u32,
 ) -> u32
     ensures { λ r. ⌜
-        beginOn
+        beginOn (now (steps .entry))
         (inputsOf
         (queryFrom «window_left» «window_top» «window_right» «window_bottom» «start_x» «start_y» «end_x» «end_y»
         «block_left» «block_top» «block_right» «block_bottom»
@@ -272,6 +275,7 @@ pub extern "C" fn hitrovzen_begin(
         edges,
         block_base,
         allow_base,
+        steps,
         rec,
         counts,
         map,
@@ -313,6 +317,7 @@ pub extern "C" fn hitrovzen_step(
     edges: &[i32],
     block_base: &[u8],
     allow_base: &[u8],
+    steps: &[i32],
     rec: &mut [u32],
     n: u32,
     counts: &mut [i32],
@@ -327,7 +332,7 @@ pub extern "C" fn hitrovzen_step(
     index: &mut u32,
 ) -> u32
     ensures { λ r. ⌜
-        stepOn
+        stepOn (now (steps .entry))
         (inputsOf
         (queryFrom «window_left» «window_top» «window_right» «window_bottom» «start_x» «start_y» «end_x» «end_y»
         «block_left» «block_top» «block_right» «block_bottom»
@@ -376,6 +381,7 @@ pub extern "C" fn hitrovzen_step(
         edges,
         block_base,
         allow_base,
+        steps,
         rec,
         n,
         counts,
@@ -514,6 +520,7 @@ pub extern "C" fn hitrovzen_judge(
     edges: &[i32],
     block_base: &[u8],
     allow_base: &[u8],
+    steps: &[i32],
     selection: &[u16],
     counts: &mut [i32],
     map: &mut [u8],
@@ -525,7 +532,7 @@ pub extern "C" fn hitrovzen_judge(
     ground: &mut u32,
 ) -> u32
     ensures { λ r. ⌜
-        judgeOn
+        judgeOn (now (steps .entry))
         (inputsOf
         (queryFrom «window_left» «window_top» «window_right» «window_bottom» «start_x» «start_y» «end_x» «end_y»
         «block_left» «block_top» «block_right» «block_bottom»
@@ -568,6 +575,7 @@ pub extern "C" fn hitrovzen_judge(
         edges,
         block_base,
         allow_base,
+        steps,
         selection,
         counts,
         map,

@@ -11,7 +11,6 @@ ghost use mathlib.Core.Path.{_≡_};
 ghost use mathlib.Core.List.{List};
 ghost use lib.ListN.{length};
 ghost use Rattle.base_model.specs.declared.Placement.{Placement};
-ghost use Rattle.rule_routes.specs.Edges.{eightSteps};
 ghost use Rattle.rule_calls.specs.Areas.{workIn};
 ghost use Rattle.rule_calls.specs.Calls.{judgeCall, judgementOf};
 ghost use Rattle.walls_rows.specs.Rows.{rowsOf};
@@ -25,6 +24,7 @@ fn judge_core(
     count: usize,
     block_base: &[u8],
     allow_base: &[u8],
+    steps: &[i32],
     selection: &[u16],
     counts: &mut [i32],
     map: &mut [u8],
@@ -34,7 +34,7 @@ fn judge_core(
 ) -> Judged
     ensures { λ r. ⌜
         ((ps : List Placement) → rows ≡ rowsOf ps → count ≡ length ps
-        → judgeCall eightSteps
+        → judgeCall (now (steps .entry))
         (given query (now (groups .entry)) ps (now («block_base» .entry)) (now («allow_base» .entry)))
         (now (selection .entry))
         (workIn (now (counts .entry)) (now (map .entry)) (now (queue .entry)) (now (predecessors .entry)) (now (route .entry)))
@@ -56,6 +56,7 @@ fn judge_core(
         &edges[..eights],
         block_base,
         allow_base,
+        steps,
         selection,
         counts,
         map,
@@ -72,6 +73,7 @@ pub fn judge(
     places: &[Placement],
     block_base: &[u8],
     allow_base: &[u8],
+    steps: &[i32],
     selection: &[u16],
     counts: &mut [i32],
     map: &mut [u8],
@@ -80,7 +82,7 @@ pub fn judge(
     route: &mut [u32],
 ) -> Judged
     ensures { λ r. ⌜
-        judgeCall eightSteps
+        judgeCall (now (steps .entry))
         (given query (now (groups .entry)) (now (places .entry)) (now («block_base» .entry)) (now («allow_base» .entry)))
         (now (selection .entry))
         (workIn (now (counts .entry)) (now (map .entry)) (now (queue .entry)) (now (predecessors .entry)) (now (route .entry)))
@@ -98,6 +100,7 @@ pub fn judge(
         places.len(),
         block_base,
         allow_base,
+        steps,
         selection,
         counts,
         map,

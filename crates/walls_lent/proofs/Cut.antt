@@ -1,12 +1,14 @@
 -- Placements past the first 6,145 change no call: there are too many of them either way,
 -- and the lists area that is lent on is too short just where the whole one is.
+-- First over an order of steps, then over the caller's table: one that does not fit is refused, whatever the placements.
 use Prim.Native.Nat.{ℕ, _+_, _*_, _≤_, _<_}
-use mathlib.Core.Path.{_≡_, refl, sym, _∙_, ap, ap₂}
+use mathlib.Core.Path.{_≡_, refl, sym, _∙_, ap, ap₂, subst}
 use mathlib.Core.Bool.{Bool, true, false, _&&_}
 use mathlib.Core.Option.{Option, none, some}
 use mathlib.Core.List.{List, [], _∷_, _++_, append-nil}
 use native.Mathlib.Omega.{arith}
 use lib.Dec.{leb}
+use lib.IntN.{ℤ}
 use lib.ListN.{length, take, drop, take-append-drop}
 use lib.Seq.{take-all, take-length, drop-length, length-take-le}
 use borrow.Author.Tests.{leb-true, leb-false, lt-leb, le-leb}
@@ -20,7 +22,7 @@ use Rattle.base_model.specs.declared.Placement.{Placement}
 use Rattle.base_model.specs.declared.Query.{Query}
 use Rattle.base_model.specs.declared.Limits.{Limits}
 use Rattle.base_model.specs.declared.Record.{Record}
-use Rattle.rule_routes.specs.Edges.{Step}
+use Rattle.rule_routes.specs.Edges.{Step, stepsOf, tableFits}
 use Rattle.rule_layouts.specs.Boards.{leavesOpen, routePast}
 use Rattle.rule_layouts.specs.Inputs.{Inputs, moverOf, allowedOf, boardOf}
 use Rattle.rule_calls.specs.Areas.{Work, Store, storeIn, basesFit, workFits, storeFits, pointsLength, cleared}
@@ -31,14 +33,19 @@ use Rattle.rule_calls.specs.Calls.{
   noRecord,
   beginChecks,
   bothRoutes,
+  beginOver,
   beginCall,
   stepChecks,
+  stepOver,
   stepCall,
   judgeChecks,
+  judgeOver,
   judgeCall,
+  AfterJudge,
   readChecks,
   readCall,
 }
+use Rattle.rule_calls.proofs.Tables.{begin-fits, begin-turned, step-fits, step-turned, judge-fits, judge-turned}
 use Rattle.walls_lent.specs.Given.{given, lentWhere, lent}
 
 -- ---- how much of the lists area is lent on
@@ -92,20 +99,20 @@ many i h = first-fails 14 _ _ (lt-leb (length (i .places)) 6144 h)
 
 step-refused : (steps : List Step) (i : Inputs) (l : Limits) (r : Record) (n : ℕ) (w : Work) (s : Store) (d : Said) → first (stepChecks i l r w s) ≡
     some d
-    → stepCall steps i l r n w s ≡ record { answer = some d; rec = r; work = w; store = s }
-unfolding stepCall
-step-refused steps i l r n w s d e = rw (e, stepCall)
+    → stepOver steps i l r n w s ≡ record { answer = some d; rec = r; work = w; store = s }
+unfolding stepOver
+step-refused steps i l r n w s d e = rw (e, stepOver)
 
 begin-refused : (steps : List Step) (i : Inputs) (l : Limits) (w : Work) (s : Store) (d : Said) → first (beginChecks i l w s) ≡ some d
-    → beginCall steps i l w s ≡ record { answer = some d; rec = noRecord; work = w; store = s }
-unfolding beginCall
-begin-refused steps i l w s d e = rw (e, beginCall)
+    → beginOver steps i l w s ≡ record { answer = some d; rec = noRecord; work = w; store = s }
+unfolding beginOver
+begin-refused steps i l w s d e = rw (e, beginOver)
 
 begin-late : (steps : List Step) (i : Inputs) (l : Limits) (w : Work) (s : Store) (d : Said) → first (beginChecks i l w s) ≡ none
-    → first (bothRoutes (boardOf steps i) ++ placeChecks i) ≡ some d → beginCall steps i l w s ≡ record
+    → first (bothRoutes (boardOf steps i) ++ placeChecks i) ≡ some d → beginOver steps i l w s ≡ record
     { answer = some d; rec = noRecord; work = cleared (i .query .window) w; store = s }
-unfolding beginCall
-begin-late steps i l w s d e k = rw (e, k, beginCall)
+unfolding beginOver
+begin-late steps i l w s d e k = rw (e, k, beginOver)
 
 read-refused : (i : Inputs) (l : Limits) (r : Record) (k : ℕ) (s : Store) (d : Said) → first (readChecks i l r k s) ≡ some d → readCall i l r k s ≡
     record
@@ -113,11 +120,11 @@ read-refused : (i : Inputs) (l : Limits) (r : Record) (k : ℕ) (s : Store) (d :
 unfolding readCall
 read-refused i l r k s d e = rw (e, readCall)
 
-judge-refused : (steps : List Step) (i : Inputs) (s : List ℕ) (w : Work) (d : Said) → first (judgeChecks i s w) ≡ some d → judgeCall steps i s w ≡
+judge-refused : (steps : List Step) (i : Inputs) (s : List ℕ) (w : Work) (d : Said) → first (judgeChecks i s w) ≡ some d → judgeOver steps i s w ≡
     record
     { answer = refuses d; work = w }
-unfolding judgeCall
-judge-refused steps i s w d e = rw (e, judgeCall)
+unfolding judgeOver
+judge-refused steps i s w d e = rw (e, judgeOver)
 
 read-met : (i : Inputs) (l : Limits) (r : Record) (k : ℕ) (s : Store) → first (placeChecks i) ≡ some (refusal 14)
     → first (readChecks i l r k s) ≡ some (met (first (groupChecks i ++ limitChecks l ++ queryChecks i (storeFits i l s))))
@@ -198,6 +205,14 @@ module _ (q : Query) (groups blockBase allowBase : List ℕ) (ps : List Placemen
     few-rest : length ps ≤ 6145 → drop part lists ≡ []
     few-rest h = ap (λ (k : ℕ). drop k lists) (lent-few (length lists) (length ps) h) ∙ drop-length lists
 
+    -- a refusal that wrote nothing
+    refused-joined : (answer : Option Said) (r : Record) (w : Work)
+        → _≡_ {A = After} (record { answer = answer; rec = r; work = w; store = whole })
+        (joined (drop part lists) (record { answer = answer; rec = r; work = w; store = some-of }))
+    unfolding joined
+    refused-joined answer r w = ap (λ (x : List ℕ). record { answer = answer; rec = r; work = w; store = storeIn x visited layouts points })
+        (sym (take-append-drop part lists))
+
     module _ (l : Limits) (more : 6145 < length ps) where
       cut-length : length (take 6145 ps) ≡ 6145
       cut-length = length-take-le 6145 ps (omega arith)
@@ -244,28 +259,20 @@ module _ (q : Query) (groups blockBase allowBase : List ℕ) (ps : List Placemen
           first-some (beginChecks cut l w some-of ++ placeChecks cut) _ _ (first-met (beginChecks cut l w some-of) (placeChecks cut) cut-many)
           ∙ ap (λ (x : List (Option Said)). some (met (first x))) (sym (begin-same w))
 
-      -- a refusal that wrote nothing
-      refused-joined : (answer : Option Said) (r : Record) (w : Work)
-          → _≡_ {A = After} (record { answer = answer; rec = r; work = w; store = whole })
-          (joined (drop part lists) (record { answer = answer; rec = r; work = w; store = some-of }))
-      unfolding joined
-      refused-joined answer r w = ap (λ (x : List ℕ). record { answer = answer; rec = r; work = w; store = storeIn x visited layouts points })
-          (sym (take-append-drop part lists))
-
-      step-more : (steps : List Step) (r : Record) (n : ℕ) (w : Work) → stepCall steps all l r n w whole ≡ joined (drop part lists)
-          (stepCall steps cut l r n w some-of)
+      step-more : (steps : List Step) (r : Record) (n : ℕ) (w : Work) → stepOver steps all l r n w whole ≡ joined (drop part lists)
+          (stepOver steps cut l r n w some-of)
       step-more steps r n w =
           step-refused steps all l r n w whole _ (step-all r w)
           ∙ refused-joined (some (met (first (beginChecks all l w whole)))) r w
           ∙ ap (joined (drop part lists)) (sym (step-refused steps cut l r n w some-of _ (step-cut r w)))
 
       -- begin
-      begin-more : (steps : List Step) (w : Work) → beginCall steps all l w whole ≡ joined (drop part lists) (beginCall steps cut l w some-of)
+      begin-more : (steps : List Step) (w : Work) → beginOver steps all l w whole ≡ joined (drop part lists) (beginOver steps cut l w some-of)
       unfolding given
       begin-more steps w = go (first (beginChecks all l w whole)) refl
         where
-          go : (x : Option Said) → first (beginChecks all l w whole) ≡ x → beginCall steps all l w whole ≡ joined (drop part lists)
-              (beginCall steps cut l w some-of)
+          go : (x : Option Said) → first (beginChecks all l w whole) ≡ x → beginOver steps all l w whole ≡ joined (drop part lists)
+              (beginOver steps cut l w some-of)
           go (some d) e =
               begin-refused steps all l w whole d e ∙ refused-joined (some d) noRecord w
               ∙ ap (joined (drop part lists)) (sym (begin-refused steps cut l w some-of d
@@ -290,27 +297,48 @@ module _ (q : Query) (groups blockBase allowBase : List ℕ) (ps : List Placemen
           ∙ ap (λ (x : List (Option Said)). record { answer = some (met (first x)); points = [] }) read-same
           ∙ sym (read-refused cut l r k some-of _ (read-met cut l r k some-of cut-many))
 
-    -- ---- for any number of placements
-    pub step-cut-is : (l : Limits) (steps : List Step) (r : Record) (n : ℕ) (w : Work) → stepCall steps all l r n w whole ≡ joined (drop part lists)
-        (stepCall steps cut l r n w some-of)
-    step-cut-is l steps r n w =
+    -- ---- for any number of placements, over an order of steps
+    step-over-is : (l : Limits) (steps : List Step) (r : Record) (n : ℕ) (w : Work) → stepOver steps all l r n w whole ≡ joined (drop part lists)
+        (stepOver steps cut l r n w some-of)
+    step-over-is l steps r n w =
         either (leb (length ps) 6145)
         (λ t.
         let h = leb-true (length ps) 6145 t in
-        ap₂ (λ (i : Inputs) (s : Store). stepCall steps i l r n w s) (sym (few h)) (sym (few-same h)) ∙ joined-none
-        (stepCall steps cut l r n w some-of)
-        ∙ ap (λ (x : List ℕ). joined x (stepCall steps cut l r n w some-of)) (sym (few-rest h)))
+        ap₂ (λ (i : Inputs) (s : Store). stepOver steps i l r n w s) (sym (few h)) (sym (few-same h)) ∙ joined-none
+        (stepOver steps cut l r n w some-of)
+        ∙ ap (λ (x : List ℕ). joined x (stepOver steps cut l r n w some-of)) (sym (few-rest h)))
         (λ t. step-more l (leb-false (length ps) 6145 t) steps r n w)
 
-    pub begin-cut-is : (l : Limits) (steps : List Step) (w : Work) → beginCall steps all l w whole ≡ joined (drop part lists)
-        (beginCall steps cut l w some-of)
-    begin-cut-is l steps w =
+    begin-over-is : (l : Limits) (steps : List Step) (w : Work) → beginOver steps all l w whole ≡ joined (drop part lists)
+        (beginOver steps cut l w some-of)
+    begin-over-is l steps w =
         either (leb (length ps) 6145)
         (λ t.
         let h = leb-true (length ps) 6145 t in
-        ap₂ (λ (i : Inputs) (s : Store). beginCall steps i l w s) (sym (few h)) (sym (few-same h)) ∙ joined-none (beginCall steps cut l w some-of)
-        ∙ ap (λ (x : List ℕ). joined x (beginCall steps cut l w some-of)) (sym (few-rest h)))
+        ap₂ (λ (i : Inputs) (s : Store). beginOver steps i l w s) (sym (few h)) (sym (few-same h)) ∙ joined-none (beginOver steps cut l w some-of)
+        ∙ ap (λ (x : List ℕ). joined x (beginOver steps cut l w some-of)) (sym (few-rest h)))
         (λ t. begin-more l (leb-false (length ps) 6145 t) steps w)
+
+    -- ---- over a table
+    pub step-cut-is : (l : Limits) (table : List ℤ) (r : Record) (n : ℕ) (w : Work) → stepCall table all l r n w whole ≡ joined (drop part lists)
+        (stepCall table cut l r n w some-of)
+    step-cut-is l table r n w =
+        either (tableFits table)
+        (λ t. subst (λ (f : Inputs → Limits → Record → ℕ → Work → Store → After). f all l r n w whole ≡ joined (drop part lists) (f cut l r n w some-of))
+        (sym (step-fits table t)) (step-over-is l (stepsOf table) r n w))
+        (λ t.
+        step-turned table t all l r n w whole ∙ refused-joined (some (refusal 19)) r w
+        ∙ ap (joined (drop part lists)) (sym (step-turned table t cut l r n w some-of)))
+
+    pub begin-cut-is : (l : Limits) (table : List ℤ) (w : Work) → beginCall table all l w whole ≡ joined (drop part lists)
+        (beginCall table cut l w some-of)
+    begin-cut-is l table w =
+        either (tableFits table)
+        (λ t. subst (λ (f : Inputs → Limits → Work → Store → After). f all l w whole ≡ joined (drop part lists) (f cut l w some-of))
+        (sym (begin-fits table t)) (begin-over-is l (stepsOf table) w))
+        (λ t.
+        begin-turned table t all l w whole ∙ refused-joined (some (refusal 19)) noRecord w
+        ∙ ap (joined (drop part lists)) (sym (begin-turned table t cut l w some-of)))
 
     pub read-cut-is : (l : Limits) (r : Record) (k : ℕ) → readCall all l r k whole ≡ readCall cut l r k some-of
     read-cut-is l r k =
@@ -324,15 +352,21 @@ module _ (q : Query) (groups blockBase allowBase : List ℕ) (ps : List Placemen
   unfolding groupChecks queryChecks moversSmall basesFit given
   judge-same w = refl
 
-  judge-more : 6145 < length ps → (steps : List Step) (s : List ℕ) (w : Work) → judgeCall steps all s w ≡ judgeCall steps cut s w
+  judge-more : 6145 < length ps → (steps : List Step) (s : List ℕ) (w : Work) → judgeOver steps all s w ≡ judgeOver steps cut s w
   unfolding given
   judge-more h steps s w =
       judge-refused steps all s w _ (judge-met all s w (many all (omega arith)))
       ∙ ap (λ (x : List (Option Said)). record { answer = refuses (met (first x)); work = w }) (judge-same w)
       ∙ sym (judge-refused steps cut s w _ (judge-met cut s w (many cut (omega (arith, length-take-le 6145 ps (omega arith))))))
 
-  pub judge-cut-is : (steps : List Step) (s : List ℕ) (w : Work) → judgeCall steps all s w ≡ judgeCall steps cut s w
-  judge-cut-is steps s w =
+  judge-over-is : (steps : List Step) (s : List ℕ) (w : Work) → judgeOver steps all s w ≡ judgeOver steps cut s w
+  judge-over-is steps s w =
       either (leb (length ps) 6145)
-      (λ t. ap (λ (i : Inputs). judgeCall steps i s w) (sym (few (leb-true (length ps) 6145 t))))
+      (λ t. ap (λ (i : Inputs). judgeOver steps i s w) (sym (few (leb-true (length ps) 6145 t))))
       (λ t. judge-more (leb-false (length ps) 6145 t) steps s w)
+
+  pub judge-cut-is : (table : List ℤ) (s : List ℕ) (w : Work) → judgeCall table all s w ≡ judgeCall table cut s w
+  judge-cut-is table s w =
+      either (tableFits table)
+      (λ t. subst (λ (f : Inputs → List ℕ → Work → AfterJudge). f all s w ≡ f cut s w) (sym (judge-fits table t)) (judge-over-is (stepsOf table) s w))
+      (λ t. judge-turned table t all s w ∙ sym (judge-turned table t cut s w))

@@ -2,12 +2,12 @@
 use Prim.Native.Nat.{ℕ, _*_, min}
 use mathlib.Core.Path.{_≡_, sym, _∙_, ap}
 use mathlib.Core.List.{List}
+use lib.IntN.{ℤ}
 use lib.ListN.{length, take, drop}
 use Rattle.base_model.specs.declared.Placement.{Placement}
 use Rattle.base_model.specs.declared.Query.{Query}
 use Rattle.base_model.specs.declared.Limits.{Limits}
 use Rattle.base_model.specs.declared.Record.{Record}
-use Rattle.rule_routes.specs.Edges.{Step}
 use Rattle.rule_layouts.specs.Inputs.{Inputs}
 use Rattle.rule_layouts.specs.Flat.{placementsOf, inputsOf}
 use Rattle.rule_calls.specs.Areas.{Work, storeIn}
@@ -33,24 +33,24 @@ module _ (q : Query) (groups blockBase allowBase : List ℕ) (rows : Rows) (k : 
         (sym laid))
 
     module _ (lists visited layouts points : List ℕ) (n : ℕ) (part : n ≡ lent (length lists) (length ps)) where
-      pub step-lent : (l : Limits) (steps : List Step) (r : Record) (m : ℕ) (w : Work) (after : After)
-          → stepCall steps lentFlat l r m w (storeIn (take n lists) visited layouts points) ≡ after
-          → stepCall steps (given q groups ps blockBase allowBase) l r m w (storeIn lists visited layouts points) ≡ joined (drop n lists) after
-      step-lent l steps r m w after h =
-          step-cut-is q groups blockBase allowBase ps lists visited layouts points l steps r m w
-          ∙ ap (λ (i : ℕ). joined (drop i lists) (stepCall steps (given q groups (take 6145 ps) blockBase allowBase) l r m w
+      pub step-lent : (l : Limits) (table : List ℤ) (r : Record) (m : ℕ) (w : Work) (after : After)
+          → stepCall table lentFlat l r m w (storeIn (take n lists) visited layouts points) ≡ after
+          → stepCall table (given q groups ps blockBase allowBase) l r m w (storeIn lists visited layouts points) ≡ joined (drop n lists) after
+      step-lent l table r m w after h =
+          step-cut-is q groups blockBase allowBase ps lists visited layouts points l table r m w
+          ∙ ap (λ (i : ℕ). joined (drop i lists) (stepCall table (given q groups (take 6145 ps) blockBase allowBase) l r m w
           (storeIn (take i lists) visited layouts points))) (sym part)
-          ∙ ap (λ (i : Inputs). joined (drop n lists) (stepCall steps i l r m w (storeIn (take n lists) visited layouts points))) flat-is
+          ∙ ap (λ (i : Inputs). joined (drop n lists) (stepCall table i l r m w (storeIn (take n lists) visited layouts points))) flat-is
           ∙ ap (joined (drop n lists)) h
 
-      pub begin-lent : (l : Limits) (steps : List Step) (w : Work) (after : After)
-          → beginCall steps lentFlat l w (storeIn (take n lists) visited layouts points) ≡ after
-          → beginCall steps (given q groups ps blockBase allowBase) l w (storeIn lists visited layouts points) ≡ joined (drop n lists) after
-      begin-lent l steps w after h =
-          begin-cut-is q groups blockBase allowBase ps lists visited layouts points l steps w
-          ∙ ap (λ (i : ℕ). joined (drop i lists) (beginCall steps (given q groups (take 6145 ps) blockBase allowBase) l w
+      pub begin-lent : (l : Limits) (table : List ℤ) (w : Work) (after : After)
+          → beginCall table lentFlat l w (storeIn (take n lists) visited layouts points) ≡ after
+          → beginCall table (given q groups ps blockBase allowBase) l w (storeIn lists visited layouts points) ≡ joined (drop n lists) after
+      begin-lent l table w after h =
+          begin-cut-is q groups blockBase allowBase ps lists visited layouts points l table w
+          ∙ ap (λ (i : ℕ). joined (drop i lists) (beginCall table (given q groups (take 6145 ps) blockBase allowBase) l w
           (storeIn (take i lists) visited layouts points))) (sym part)
-          ∙ ap (λ (i : Inputs). joined (drop n lists) (beginCall steps i l w (storeIn (take n lists) visited layouts points))) flat-is
+          ∙ ap (λ (i : Inputs). joined (drop n lists) (beginCall table i l w (storeIn (take n lists) visited layouts points))) flat-is
           ∙ ap (joined (drop n lists)) h
 
       pub read-lent : (l : Limits) (r : Record) (m : ℕ) → readCall (given q groups ps blockBase allowBase) l r m
@@ -62,6 +62,6 @@ module _ (q : Query) (groups blockBase allowBase : List ℕ) (rows : Rows) (k : 
           (sym part)
           ∙ ap (λ (i : Inputs). readCall i l r m (storeIn (take n lists) visited layouts points)) flat-is
 
-    pub judge-lent : (steps : List Step) (s : List ℕ) (w : Work) → judgeCall steps (given q groups ps blockBase allowBase) s w ≡ judgeCall steps
+    pub judge-lent : (table : List ℤ) (s : List ℕ) (w : Work) → judgeCall table (given q groups ps blockBase allowBase) s w ≡ judgeCall table
         lentFlat s w
-    judge-lent steps s w = judge-cut-is q groups blockBase allowBase ps steps s w ∙ ap (λ (i : Inputs). judgeCall steps i s w) flat-is
+    judge-lent table s w = judge-cut-is q groups blockBase allowBase ps table s w ∙ ap (λ (i : Inputs). judgeCall table i s w) flat-is

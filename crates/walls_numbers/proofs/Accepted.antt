@@ -2,20 +2,21 @@
 -- (`rule_calls/proofs/Named`); an accepted reading tells the part of the points that the call gives.
 use Prim.Native.Nat.{ℕ, _*_, _≤_}
 use mathlib.Core.Path.{_≡_, refl, sym, _∙_, ap}
-use mathlib.Core.Bool.{_&&_}
+use mathlib.Core.Bool.{Bool, true, false, _&&_}
 use mathlib.Core.Option.{Option, none, some, Option·none-ne-some}
 use mathlib.Core.List.{List, [], _++_}
 use native.Mathlib.Omega.{arith}
+use lib.IntN.{ℤ}
 use lib.ListN.{length, getD, take, drop}
 use borrow.Author.Tests.{leb-true, le-leb}
-use Rattle.base_model.specs.Answers.{Said, first}
+use Rattle.base_model.specs.Answers.{Said, refusal, ask, first}
 use Rattle.base_model.specs.declared.Limits.{Limits}
 use Rattle.base_model.specs.declared.Record.{Record}
-use Rattle.rule_routes.specs.Edges.{eightSteps}
+use Rattle.rule_routes.specs.Edges.{stepsOf, tableFits}
 use Rattle.rule_layouts.specs.Inputs.{Inputs}
 use Rattle.rule_calls.specs.Areas.{Work, Store, storeIn, storeFits, pointsOf}
 use Rattle.rule_calls.specs.Checks.{groupChecks, limitChecks, queryChecks, placeChecks}
-use Rattle.rule_calls.specs.Calls.{beginChecks, beginCall, stepChecks, stepCall, readChecks, ReadOut, readCall}
+use Rattle.rule_calls.specs.Calls.{beginChecks, beginOver, beginCall, stepChecks, stepOver, stepCall, readChecks, ReadOut, readCall}
 use Rattle.rule_calls.proofs.Named.{Named, Named·passed, Named·refused, last-named, then-named, asks-named, place-named, query-named, begin-named, step-named}
 use Rattle.rule_calls.proofs.Reading.{read-checks, read-is, read-refused}
 use Rattle.call_read.specs.Told.{numberIn, indexIn}
@@ -30,6 +31,24 @@ passed : (o : Option Said) → Named o → numberIn o ≡ 0 → o ≡ none
 unfolding numberIn
 passed none (Named·passed) e = refl
 passed (some r) (Named·refused h) e = absurd (omega arith)
+
+-- no refusal has the number 0
+module _ (table : List ℤ) (i : Inputs) (l : Limits) (w : Work) (a : Store) where
+  begin-answers : Named (beginCall table i l w a .answer)
+  unfolding beginCall refusal
+  begin-answers = go (tableFits table) refl
+    where
+      go : (b : Bool) → tableFits table ≡ b → Named (beginCall table i l w a .answer)
+      go false t = rw (beginCall, t) (Named·refused {e = refusal 19} (omega arith))
+      go true t = rw (beginCall, t) (begin-named (stepsOf table) i l w a)
+
+  step-answers : (r : Record) (n : ℕ) → Named (stepCall table i l r n w a .answer)
+  unfolding stepCall refusal
+  step-answers r n = go (tableFits table) refl
+    where
+      go : (b : Bool) → tableFits table ≡ b → Named (stepCall table i l r n w a .answer)
+      go false t = rw (stepCall, t) (Named·refused {e = refusal 19} (omega arith))
+      go true t = rw (stepCall, t) (step-named (stepsOf table) i l w a r n)
 
 -- ---- readings
 pub place-answer : (o : Option Said) (r : Record) (k : ℕ) → placeOf o r k .answer ≡ numberIn o
@@ -54,15 +73,16 @@ module _ (i : Inputs) (l : Limits) (ns : List ℕ) (a : Store) (whole : 50 ≤ l
   all-is = lent-is i l ns a (length (a .visited)) room-is (le-leb 50 (length ns) whole)
 
   -- begin is the call
-  pub begin-whole : (w : Work) → beginOn i l ns w a ≡ leftBy (beginCall eightSteps i l w a) ns
-  unfolding beginOn beginCall turned leftBy numbersAfter numberIn indexIn
-  begin-whole w = go (first (beginChecksOn i l ns w a)) refl
+  pub begin-whole : (table : List ℤ) (w : Work) → beginOn table i l ns w a ≡ leftBy (beginCall table i l w a) ns
+  unfolding beginOn beginCall beginOver turned leftBy numbersAfter numberIn indexIn ask first
+  begin-whole table w = go (tableFits table) refl (first (beginChecksOn i l ns w a)) refl
     where
-      go : (o : Option Said) → first (beginChecksOn i l ns w a) ≡ o → beginOn i l ns w a ≡ leftBy (beginCall eightSteps i l w a) ns
-      go none e = rw (e, beginOn)
-      go (some x) e =
+      go : (b : Bool) → tableFits table ≡ b → (o : Option Said) → first (beginChecksOn i l ns w a) ≡ o → beginOn table i l ns w a ≡ leftBy (beginCall table i l w a) ns
+      go false t o e = rw (t, beginOn, beginCall, leftBy)
+      go true t none e = rw (t, e, beginOn)
+      go true t (some x) e =
           let f = sym (begin-same i l ns a (length (a .visited)) room-is w ∙ ap (λ (s : Store). first (beginChecks i l w s)) all-is) ∙ e in
-          rw (e, beginOn, f, beginCall, leftBy)
+          rw (t, e, beginOn, f, beginCall, beginOver, leftBy)
 
   read-all : (k : ℕ) → recordIn ns ≡ recordFrom ns → first (readChecksOn i l ns k a) ≡ first (readChecks i l (recordFrom ns) k a)
   read-all k s =
@@ -72,13 +92,15 @@ module _ (i : Inputs) (l : Limits) (ns : List ℕ) (a : Store) (whole : 50 ≤ l
 
   -- with a pending of 0 or 1 step and reading are the calls on the record that they are
   module _ (flag : getD ns 5 0 ≤ 1) where
-    pub step-whole : (n : ℕ) (w : Work) → stepOn i l ns n w a ≡ leftBy (stepCall eightSteps i l (recordFrom ns) n w a) ns
-    unfolding stepOn stepCall turned leftBy numbersAfter numberIn indexIn
-    step-whole n w = go (first (stepChecksOn i l ns w a)) refl
+    pub step-whole : (table : List ℤ) (n : ℕ) (w : Work) → stepOn table i l ns n w a ≡ leftBy (stepCall table i l (recordFrom ns) n w a) ns
+    unfolding stepOn stepCall stepOver turned leftBy numbersAfter numberIn indexIn ask first
+    step-whole table n w = go (tableFits table) refl (first (stepChecksOn i l ns w a)) refl
       where
-        go : (o : Option Said) → first (stepChecksOn i l ns w a) ≡ o → stepOn i l ns n w a ≡ leftBy (stepCall eightSteps i l (recordFrom ns) n w a) ns
-        go none e = rw (e, stepOn)
-        go (some x) e =
+        go : (b : Bool) → tableFits table ≡ b → (o : Option Said) → first (stepChecksOn i l ns w a) ≡ o
+            → stepOn table i l ns n w a ≡ leftBy (stepCall table i l (recordFrom ns) n w a) ns
+        go false t o e = rw (t, stepOn, stepCall, leftBy)
+        go true t none e = rw (t, e, stepOn)
+        go true t (some x) e =
             let f =
             sym
             (step-same i l ns a (length (a .visited)) room-is w
@@ -86,13 +108,13 @@ module _ (i : Inputs) (l : Limits) (ns : List ℕ) (a : Store) (whole : 50 ≤ l
             ∙ ap (λ (r : Record). first (stepChecks i l r w a)) (in-whole ns whole flag))
             ∙ e
             in
-            rw (e, stepOn, f, stepCall, leftBy)
+            rw (t, e, stepOn, f, stepCall, stepOver, leftBy)
 
-    pub step-accepted : (n : ℕ) (w : Work) → stepOn i l ns n w a .answer ≡ 0 → stepCall eightSteps i l (recordFrom ns) n w a .answer ≡ none
+    pub step-accepted : (table : List ℤ) (n : ℕ) (w : Work) → stepOn table i l ns n w a .answer ≡ 0 → stepCall table i l (recordFrom ns) n w a .answer ≡ none
     unfolding leftBy
-    step-accepted n w e =
-        passed (stepCall eightSteps i l (recordFrom ns) n w a .answer) (step-named eightSteps i l w a (recordFrom ns) n)
-        (sym (ap (λ (x : Left). x .answer) (step-whole n w)) ∙ e)
+    step-accepted table n w e =
+        passed (stepCall table i l (recordFrom ns) n w a .answer) (step-answers table i l w a (recordFrom ns) n)
+        (sym (ap (λ (x : Left). x .answer) (step-whole table n w)) ∙ e)
 
     pub read-whole : (k : ℕ) → readOn i l ns k a ≡ placeOf (readCall i l (recordFrom ns) k a .answer) (recordFrom ns) k
     unfolding readOn
@@ -100,14 +122,15 @@ module _ (i : Inputs) (l : Limits) (ns : List ℕ) (a : Store) (whole : 50 ≤ l
         ap (λ (o : Option Said). placeOf o (recordFrom ns) k) (read-all k (in-whole ns whole flag) ∙ sym (answer-is i l (recordFrom ns) k a))
 
 -- ---- an answer of 0
-module _ (i : Inputs) (l : Limits) (w : Work) (a : Store) where
-  pub begin-accepted : (ns : List ℕ) → beginOn i l ns w a .answer ≡ 0 → (50 ≤ length ns) × (beginCall eightSteps i l w a .answer ≡ none)
-  unfolding beginOn turned leftBy fifty numberIn beginChecksOn
-  begin-accepted ns e = go (first (beginChecksOn i l ns w a)) refl
+module _ (table : List ℤ) (i : Inputs) (l : Limits) (w : Work) (a : Store) where
+  pub begin-accepted : (ns : List ℕ) → beginOn table i l ns w a .answer ≡ 0 → (50 ≤ length ns) × (beginCall table i l w a .answer ≡ none)
+  unfolding beginOn turned leftBy fifty numberIn beginChecksOn ask first refusal
+  begin-accepted ns e = go (tableFits table) refl (first (beginChecksOn i l ns w a)) refl
     where
-      go : (o : Option Said) → first (beginChecksOn i l ns w a) ≡ o → (50 ≤ length ns) × (beginCall eightSteps i l w a .answer ≡ none)
-      go none f = (leb-true 50 (length ns) (begin-fifty i l ns a w f), passed _ (begin-named eightSteps i l w a) (rw (f, beginOn) at e))
-      go (some x) f = absurd (Option·none-ne-some x (sym (passed _ (query-named i l _) (ap numberIn f ∙ (rw (f, beginOn) at e))) ∙ f))
+      go : (b : Bool) → tableFits table ≡ b → (o : Option Said) → first (beginChecksOn i l ns w a) ≡ o → (50 ≤ length ns) × (beginCall table i l w a .answer ≡ none)
+      go false t o f = absurd (let z : 19 ≡ 0 = rw (t, beginOn) at e in let x : ⊥ = omega arith in x)
+      go true t none f = (leb-true 50 (length ns) (begin-fifty i l ns a w f), passed _ (begin-answers table i l w a) (rw (t, f, beginOn) at e))
+      go true t (some x) f = absurd (Option·none-ne-some x (sym (passed _ (query-named i l _) (ap numberIn f ∙ (rw (t, f, beginOn) at e))) ∙ f))
 
 module _ (i : Inputs) (l : Limits) (ns : List ℕ) (a : Store) (k : ℕ) (e : readOn i l ns k a .answer ≡ 0) where
   passes : first (readChecksOn i l ns k a) ≡ none

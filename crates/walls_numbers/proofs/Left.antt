@@ -1,23 +1,24 @@
 -- What the code finds after a call is what the definitions leave.
 use Prim.Native.Nat.{ℕ}
 use mathlib.Core.Path.{_≡_, refl, sym, _∙_, ap}
-use mathlib.Core.Bool.{true, false, not, true≢false}
+use mathlib.Core.Bool.{Bool, true, false, not, true≢false}
 use mathlib.Core.Option.{Option, none, some}
 use mathlib.Core.List.{List, [], _++_, append-nil}
+use lib.IntN.{ℤ}
 use lib.ListN.{length, getD, take, drop, take-append-drop}
 use lib.Seq.{drop-length}
 use borrow.Author.Tests.{leb-true}
 use Rattle.base_laws.specs.Lists.{total, isSome}
-use Rattle.base_model.specs.Answers.{Said, first}
+use Rattle.base_model.specs.Answers.{Said, refusal, ask, first}
 use Rattle.base_model.specs.declared.Rect.{Rect}
 use Rattle.base_model.specs.declared.Bounds.{Bounds}
 use Rattle.base_model.specs.declared.Limits.{Limits}
 use Rattle.base_model.specs.declared.Record.{Record}
 use Rattle.rule_covers.specs.Covers.{AfterChange, coverCall, liftCall}
-use Rattle.rule_routes.specs.Edges.{eightSteps}
+use Rattle.rule_routes.specs.Edges.{tableFits}
 use Rattle.rule_layouts.specs.Inputs.{Inputs}
 use Rattle.rule_calls.specs.Areas.{Work, Store, storeIn}
-use Rattle.rule_calls.specs.Calls.{Preparation, Prepared, prepareCall, After, noRecord, beginCall, stepCall, readChecks, AfterJudge, judgeCall}
+use Rattle.rule_calls.specs.Calls.{Preparation, Prepared, prepareCall, After, noRecord, beginOver, beginCall, stepOver, stepCall, readChecks, AfterJudge, judgeCall}
 use Rattle.call_read.specs.Told.{numberIn, indexIn}
 use Rattle.walls_numbers.specs.Numbers.{recordFrom, numbersAfter, judgedAnswer, judgedIndex, judgedVerdict, judgedGround}
 use Rattle.walls_numbers.specs.Left.{prepareOn, changedBy, coverOn, liftOn, fifty, Left, beginChecksOn, stepChecksOn, turned, leftBy, beginOn, stepOn, readChecksOn, placeOf, readOn, judgeOn}
@@ -26,10 +27,10 @@ use Rattle.walls_numbers.proofs.Fifty.{left-laid}
 use Rattle.walls_numbers.proofs.Lent.{all-lent, lent-is, begin-fifty, begin-same, step-read, step-same, read-read, read-same}
 
 -- ---- preparing, covering and lifting, judging
-pub prepare-left : (q : Preparation) (b : List ℕ) (w : Work) (o : Prepared) (n : ℕ) → prepareCall eightSteps q b w ≡ o → n ≡ numberIn (o .answer)
-    → prepareOn q b w ≡ record { answer = n; baseline = o .baseline; work = o .work }
+pub prepare-left : (table : List ℤ) (q : Preparation) (b : List ℕ) (w : Work) (o : Prepared) (n : ℕ) → prepareCall table q b w ≡ o → n ≡ numberIn (o .answer)
+    → prepareOn table q b w ≡ record { answer = n; baseline = o .baseline; work = o .work }
 unfolding prepareOn
-prepare-left q b w o n e f = rw (e, f)
+prepare-left table q b w o n e f = rw (e, f)
 
 module _ (w : Rect) (m : Bounds) (r : Rect) (b : List ℕ) (o : AfterChange) (n : ℕ) where
   pub cover-left : coverCall w m r b ≡ o → n ≡ numberIn (o .answer) → coverOn w m r b ≡ record { answer = n; baseline = o .baseline }
@@ -40,11 +41,11 @@ module _ (w : Rect) (m : Bounds) (r : Rect) (b : List ℕ) (o : AfterChange) (n 
   unfolding liftOn changedBy
   lift-left e f = rw (e, f)
 
-pub judge-left : (i : Inputs) (s : List ℕ) (w : Work) (o : AfterJudge) (n x v g : ℕ) → judgeCall eightSteps i s w ≡ o → n ≡ judgedAnswer (o .answer)
-    → x ≡ judgedIndex (o .answer) → v ≡ judgedVerdict (o .answer) → g ≡ judgedGround (o .answer)
-    → judgeOn i s w ≡ record { answer = n; index = x; verdict = v; ground = g; work = o .work }
+pub judge-left : (table : List ℤ) (i : Inputs) (s : List ℕ) (w : Work) (o : AfterJudge) (n x v g : ℕ) → judgeCall table i s w ≡ o
+    → n ≡ judgedAnswer (o .answer) → x ≡ judgedIndex (o .answer) → v ≡ judgedVerdict (o .answer) → g ≡ judgedGround (o .answer)
+    → judgeOn table i s w ≡ record { answer = n; index = x; verdict = v; ground = g; work = o .work }
 unfolding judgeOn
-judge-left i s w o n x v g e en ex ev eg = rw (e, en, ex, ev, eg)
+judge-left table i s w o n x v g e en ex ev eg = rw (e, en, ex, ev, eg)
 
 -- ---- a search
 after-is : (o : Option Said) (r : Record) (ns : List ℕ) → fifty ns ≡ true → numbersAfter o r ns ≡ numbersLeft o r ns
@@ -52,7 +53,7 @@ unfolding numbersAfter numbersLeft fifty
 after-is none r ns h = left-laid r ns (leb-true 50 (length ns) h)
 after-is (some e) r ns h = refl
 
-module _ (i : Inputs) (l : Limits) (ns : List ℕ) (w : Work) (lists visited layouts points : List ℕ) (room : ℕ)
+module _ (table : List ℤ) (i : Inputs) (l : Limits) (ns : List ℕ) (w : Work) (lists visited layouts points : List ℕ) (room : ℕ)
     (r : room ≡ lentOf (length ns) (length visited)) where
   abbrev given : Store
   given = storeIn lists visited layouts points
@@ -91,37 +92,41 @@ module _ (i : Inputs) (l : Limits) (ns : List ℕ) (w : Work) (lists visited lay
         store = storeIn (o .store .lists) v (o .store .layouts) (o .store .points);
       }) (sym (append-nil (o .store .visited)) ∙ ap (λ (v : List ℕ). o .store .visited ++ v) (sym g))
 
-  begin-found : beginOn i l ns w given ≡ found (beginCall eightSteps i l w lent)
-  unfolding beginOn beginCall
-  begin-found = go (first (beginChecksOn i l ns w given)) refl
+  begin-found : beginOn table i l ns w given ≡ found (beginCall table i l w lent)
+  unfolding beginOn beginCall beginOver ask first
+  begin-found = go (tableFits table) refl (first (beginChecksOn i l ns w given)) refl
     where
-      go : (o : Option Said) → first (beginChecksOn i l ns w given) ≡ o → beginOn i l ns w given ≡ found (beginCall eightSteps i l w lent)
-      go none e =
+      go : (b : Bool) → tableFits table ≡ b → (o : Option Said) → first (beginChecksOn i l ns w given) ≡ o
+          → beginOn table i l ns w given ≡ found (beginCall table i l w lent)
+      go false t o e = rw (t, beginOn, beginCall) (on-refusal (refusal 19) noRecord)
+      go true t none e =
           let h = begin-fifty i l ns given w e in
-          rw (e, beginOn) (on-whole h (beginCall eightSteps i l w given) ∙ ap (λ (a : Store). found (beginCall eightSteps i l w a)) (sym (lent-is i l ns given room r h)))
-      go (some x) e = rw (e, beginOn, sym (begin-same i l ns given room r w) ∙ e, beginCall) (on-refusal x noRecord)
+          rw (t, e, beginOn) (on-whole h (beginCall table i l w given) ∙ ap (λ (a : Store). found (beginCall table i l w a)) (sym (lent-is i l ns given room r h)))
+      go true t (some x) e = rw (t, e, beginOn, sym (begin-same i l ns given room r w) ∙ e, beginCall, beginOver) (on-refusal x noRecord)
 
-  step-found : (k : ℕ) → stepOn i l ns k w given ≡ found (stepCall eightSteps i l (recordIn ns) k w lent)
-  unfolding stepOn stepCall
-  step-found k = go (first (stepChecksOn i l ns w given)) refl
+  step-found : (k : ℕ) → stepOn table i l ns k w given ≡ found (stepCall table i l (recordIn ns) k w lent)
+  unfolding stepOn stepCall stepOver ask first
+  step-found k = go (tableFits table) refl (first (stepChecksOn i l ns w given)) refl
     where
-      go : (o : Option Said) → first (stepChecksOn i l ns w given) ≡ o → stepOn i l ns k w given ≡ found (stepCall eightSteps i l (recordIn ns) k w lent)
-      go none e =
+      go : (b : Bool) → tableFits table ≡ b → (o : Option Said) → first (stepChecksOn i l ns w given) ≡ o
+          → stepOn table i l ns k w given ≡ found (stepCall table i l (recordIn ns) k w lent)
+      go false t o e = rw (t, stepOn, stepCall) (on-refusal (refusal 19) (recordIn ns))
+      go true t none e =
           let h = step-read i l ns given w e in
-          rw (e, stepOn)
-          (on-whole (h .0) (stepCall eightSteps i l (recordFrom ns) k w given)
-          ∙ ap (λ (x : Record). found (stepCall eightSteps i l x k w given)) (sym (h .1))
-          ∙ ap (λ (a : Store). found (stepCall eightSteps i l (recordIn ns) k w a)) (sym (lent-is i l ns given room r (h .0))))
-      go (some x) e = rw (e, stepOn, sym (step-same i l ns given room r w) ∙ e, stepCall) (on-refusal x (recordIn ns))
+          rw (t, e, stepOn)
+          (on-whole (h .0) (stepCall table i l (recordFrom ns) k w given)
+          ∙ ap (λ (x : Record). found (stepCall table i l x k w given)) (sym (h .1))
+          ∙ ap (λ (a : Store). found (stepCall table i l (recordIn ns) k w a)) (sym (lent-is i l ns given room r (h .0))))
+      go true t (some x) e = rw (t, e, stepOn, sym (step-same i l ns given room r w) ∙ e, stepCall, stepOver) (on-refusal x (recordIn ns))
 
-  pub begin-left : (o : After) (n x : ℕ) (ms : List ℕ) → beginCall eightSteps i l w lent ≡ o
+  pub begin-left : (o : After) (n x : ℕ) (ms : List ℕ) → beginCall table i l w lent ≡ o
       → n ≡ numberIn (o .answer) → x ≡ indexIn (o .answer) → ms ≡ numbersLeft (o .answer) (o .rec) ns
-      → beginOn i l ns w given ≡ record { answer = n; index = x; numbers = ms; work = o .work; store = after (o .store) }
+      → beginOn table i l ns w given ≡ record { answer = n; index = x; numbers = ms; work = o .work; store = after (o .store) }
   begin-left o n x ms e en ex em = begin-found ∙ ap found e ∙ rw (en, ex, em)
 
-  pub step-left : (k : ℕ) (o : After) (n x : ℕ) (ms : List ℕ) → stepCall eightSteps i l (recordIn ns) k w lent ≡ o
+  pub step-left : (k : ℕ) (o : After) (n x : ℕ) (ms : List ℕ) → stepCall table i l (recordIn ns) k w lent ≡ o
       → n ≡ numberIn (o .answer) → x ≡ indexIn (o .answer) → ms ≡ numbersLeft (o .answer) (o .rec) ns
-      → stepOn i l ns k w given ≡ record { answer = n; index = x; numbers = ms; work = o .work; store = after (o .store) }
+      → stepOn table i l ns k w given ≡ record { answer = n; index = x; numbers = ms; work = o .work; store = after (o .store) }
   step-left k o n x ms e en ex em = step-found k ∙ ap found e ∙ rw (en, ex, em)
 
 -- ---- reading

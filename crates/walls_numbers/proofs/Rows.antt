@@ -3,7 +3,7 @@ use Prim.Native.Nat.{ℕ}
 use mathlib.Core.Path.{_≡_, refl}
 use mathlib.Core.Bool.{true}
 use mathlib.Core.List.{List, [], _∷_, _++_, map}
-use lib.IntN.{pos}
+use lib.IntN.{ℤ, pos}
 use lib.ListN.{replicate, take}
 use Rattle.base_laws.specs.Lists.{span}
 use Rattle.base_laws.specs.Fill.{filled}
@@ -13,6 +13,7 @@ use Rattle.base_model.specs.declared.Limits.{Limits}
 use Rattle.base_model.specs.declared.Record.{Record}
 use Rattle.base_model.specs.declared.Verdict.the-variants.{Slots, Overlap, EndCovered, Open, Spare, Shut, Wall}
 use Rattle.rule_covers.specs.Covers.{oneMore, mayRise, oneLess, mayFall, offCentre, changed, mayChange, changeChecks, changeCall, coverCall, liftCall}
+use Rattle.rule_routes.specs.Edges.{originalSteps}
 use Rattle.rule_layouts.specs.Inputs.{Inputs}
 use Rattle.rule_calls.specs.Areas.{Work, Store}
 use Rattle.rule_calls.proofs.Computing.{computing}
@@ -89,10 +90,14 @@ ground : (reach byte : ℕ) → Inputs
 ground m b = given W (at 0 1) (at 4 1) (bounds m 0 0 0) Nobody (2 ∷ []) placesP (replicate 15 b) []
 
 onBegin : Inputs → (numbers : List ℕ) → Left
-onBegin i ns = beginOn i l ns (workFor W) (storeFor i l)
+onBegin i ns = beginOn originalSteps i l ns (workFor W) (storeFor i l)
 
 onStep : Inputs → (numbers : List ℕ) → Left
-onStep i ns = stepOn i l ns 1 (workFor W) areas
+onStep i ns = stepOn originalSteps i l ns 1 (workFor W) areas
+
+-- the original's table without its last number
+short : List ℤ
+short = take 15 originalSteps
 
 onRead : Inputs → (numbers : List ℕ) → (k : ℕ) → LeftRead
 onRead i ns k = readOn i l ns k areas
@@ -115,10 +120,13 @@ answering =
     ∷ (told (onStep (alone placesP) (held 2)) gives (16, 0))
     ∷ (told (onStep spoilt (held 2)) gives (15, 1))
     ∷ (told (onStep (alone placesP) (held 1)) gives (0, 0))
+    -- a table that does not fit: 19, before all of these
+    ∷ (told (beginOn short (ground 257 2) l (replicate 49 9) (workFor W) areas) gives (19, 0))
+    ∷ (told (stepOn short spoilt l (take 49 (held 2)) 1 (workFor W) areas) gives (19, 0))
     ∷ []
 
 answered : gots answering ≡ wants answering
-unfolding numbering l held areas spoilt ground onBegin onStep told answering
+unfolding numbering l held areas spoilt ground onBegin onStep short told answering
 answered = refl
 
 place-at : (answer index first count : ℕ) → LeftRead
@@ -152,13 +160,15 @@ places-told = refl
 leaves : (answer index : ℕ) → (numbers : List ℕ) → Work → Store → Left
 leaves a x ns w s = record { answer = a; index = x; numbers = ns; work = w; store = s }
 
--- 6 and 16 write nothing; 15 clears the working areas of a begin
+-- 6, 16 and 19 write nothing; 15 clears the working areas of a begin
 leaving : List (Row Left)
 leaving =
     (onBegin (ground 0 0) (replicate 49 9) gives leaves 6 0 (replicate 49 9) (workFor W) (storeFor (ground 0 0) l))
     ∷ (onBegin spoilt (replicate 51 9) gives leaves 15 1 (replicate 51 9) zeroed (storeFor spoilt l))
     ∷ (onStep (alone placesP) (take 49 (held 0)) gives leaves 6 0 (take 49 (held 0)) (workFor W) areas)
     ∷ (onStep (alone placesP) (held 2 ++ 9 ∷ []) gives leaves 16 0 (held 2 ++ 9 ∷ []) (workFor W) areas)
+    ∷ (beginOn short (ground 0 0) l (replicate 51 9) (workFor W) areas gives leaves 19 0 (replicate 51 9) (workFor W) areas)
+    ∷ (stepOn short (alone placesP) l (held 0) 1 (workFor W) areas gives leaves 19 0 (held 0) (workFor W) areas)
     -- an accepted begin lays fifty numbers and keeps the next
     ∷ (onBegin (ground 0 0) (replicate 51 9)
     gives leaves 0 0 (1 ∷ 0 ∷ 3 ∷ 0 ∷ 0 ∷ 1 ∷ replicate 32 0 ++ replicate 6 0 ++ replicate 6 0 ++ 9 ∷ []) zeroed
@@ -175,29 +185,36 @@ leaving =
     ∷ []
 
 left : gots leaving ≡ wants leaving
-unfolding numbering l held areas spoilt ground onBegin onStep zeroed leaves leaving
+unfolding numbering l held areas spoilt ground onBegin onStep short zeroed leaves leaving
 left = refl
 
 -- ---- preparing and judging
 -- a mover on P's window whose left bound is 0, 1 or 257
-prepared : (reach : ℕ) → ℕ × List ℕ
-prepared reach =
-    let o = prepareOn
+prepared : (table : List ℤ) (reach : ℕ) → ℕ × List ℕ
+prepared table reach =
+    let o = prepareOn table
     (record { map = record { across = 1; down = 1; cells = 1 ∷ [] }; obstacles = []; window = W; start = at 0 1; end = at 4 1; mover = bounds reach 0 0 0 })
     (replicate 16 9) (workFor W) in
     (o .answer, o .baseline)
 
-preparations : prepared 0 ∷ prepared 1 ∷ prepared 257 ∷ [] ≡ (0, replicate 15 0 ++ 9 ∷ []) ∷ (7, replicate 15 0 ++ 9 ∷ []) ∷ (4, replicate 16 9) ∷ []
-unfolding numbering prepared
+preparations : prepared originalSteps 0 ∷ prepared originalSteps 1 ∷ prepared originalSteps 257 ∷ prepared short 257 ∷ []
+    ≡ (0, replicate 15 0 ++ 9 ∷ []) ∷ (7, replicate 15 0 ++ 9 ∷ []) ∷ (4, replicate 16 9) ∷ (19, replicate 16 9) ∷ []
+unfolding numbering short prepared
 preparations = refl
 
--- a wall with the ground that it leaves; a refusal with its index; one without
-judgements : judgeOn (alone placesP) (0 ∷ []) (workFor W) ∷ judgeOn spoilt (0 ∷ []) (workFor W) ∷ judgeOn (alone placesP) (1 ∷ 0 ∷ []) (workFor W) ∷ []
+-- a wall with the ground that it leaves; a refusal with its index; two without
+judgements :
+    judgeOn originalSteps (alone placesP) (0 ∷ []) (workFor W)
+    ∷ judgeOn originalSteps spoilt (0 ∷ []) (workFor W)
+    ∷ judgeOn originalSteps (alone placesP) (1 ∷ 0 ∷ []) (workFor W)
+    ∷ judgeOn short spoilt (1 ∷ 0 ∷ []) (workFor W)
+    ∷ []
     ≡ record { answer = 0; index = 0; verdict = 7; ground = 6; work = zeroed }
     ∷ record { answer = 15; index = 1; verdict = 0; ground = 0; work = workFor W }
     ∷ record { answer = 17; index = 0; verdict = 0; ground = 0; work = workFor W }
+    ∷ record { answer = 19; index = 0; verdict = 0; ground = 0; work = workFor W }
     ∷ []
-unfolding numbering spoilt zeroed
+unfolding numbering spoilt short zeroed
 judgements = refl
 
 -- ---- covering and lifting: the answer, and the baseline with an entry past its centres

@@ -4,6 +4,7 @@ use mathlib.Core.Bool.{Bool, _&&_}
 use mathlib.Core.Option.{Option, none, some}
 use mathlib.Core.List.{List, [], _∷_, _++_}
 use lib.Dec.{leb, ltb}
+use lib.IntN.{ℤ}
 use lib.ListN.{length, getD, take}
 use Rattle.base_laws.specs.Lists.{total}
 use Rattle.base_model.specs.Answers.{Said, ask, first}
@@ -12,7 +13,7 @@ use Rattle.base_model.specs.declared.Bounds.{Bounds}
 use Rattle.base_model.specs.declared.Limits.{Limits}
 use Rattle.base_model.specs.declared.Record.{Record}
 use Rattle.rule_covers.specs.Covers.{AfterChange, coverCall, liftCall}
-use Rattle.rule_routes.specs.Edges.{eightSteps}
+use Rattle.rule_routes.specs.Edges.{tableFits}
 use Rattle.rule_layouts.specs.Inputs.{Inputs}
 use Rattle.rule_calls.specs.Areas.{Work, Store, workFits, storeFits}
 use Rattle.rule_calls.specs.Checks.{groupChecks, limitChecks, queryChecks, placeChecks}
@@ -27,9 +28,9 @@ pub record LeftPrepared : Type 0 where
   pub baseline : List ℕ
   pub work : Work
 
-unfoldable pub prepareOn : Preparation → (baseline : List ℕ) → Work → LeftPrepared
-prepareOn q baseline work =
-    let o = prepareCall eightSteps q baseline work in record { answer = numberIn (o .answer); baseline = o .baseline; work = o .work }
+unfoldable pub prepareOn : (table : List ℤ) → Preparation → (baseline : List ℕ) → Work → LeftPrepared
+prepareOn table q baseline work =
+    let o = prepareCall table q baseline work in record { answer = numberIn (o .answer); baseline = o .baseline; work = o .work }
 
 -- ---- covering and lifting
 pub record LeftChanged : Type 0 where
@@ -78,13 +79,16 @@ unfoldable pub leftBy : After → (numbers : List ℕ) → Left
 leftBy o ns =
     record { answer = numberIn (o .answer); index = indexIn (o .answer); numbers = numbersAfter (o .answer) (o .rec) ns; work = o .work; store = o .store }
 
-unfoldable pub beginOn : Inputs → Limits → (numbers : List ℕ) → Work → Store → Left
-beginOn i l ns work store =
-    elim (first (beginChecksOn i l ns work store)) [ some e ↦ turned e ns work store | none ↦ leftBy (beginCall eightSteps i l work store) ns ]
+-- 19 before every other check
+unfoldable pub beginOn : (table : List ℤ) → Inputs → Limits → (numbers : List ℕ) → Work → Store → Left
+beginOn table i l ns work store =
+    elim (first (ask 19 (tableFits table) ∷ beginChecksOn i l ns work store))
+    [ some e ↦ turned e ns work store | none ↦ leftBy (beginCall table i l work store) ns ]
 
-unfoldable pub stepOn : Inputs → Limits → (numbers : List ℕ) → (n : ℕ) → Work → Store → Left
-stepOn i l ns n work store =
-    elim (first (stepChecksOn i l ns work store)) [ some e ↦ turned e ns work store | none ↦ leftBy (stepCall eightSteps i l (recordFrom ns) n work store) ns ]
+unfoldable pub stepOn : (table : List ℤ) → Inputs → Limits → (numbers : List ℕ) → (n : ℕ) → Work → Store → Left
+stepOn table i l ns n work store =
+    elim (first (ask 19 (tableFits table) ∷ stepChecksOn i l ns work store))
+    [ some e ↦ turned e ns work store | none ↦ leftBy (stepCall table i l (recordFrom ns) n work store) ns ]
 
 -- ---- reading
 -- where layout k's route begins among the kept points, and how many points it has; both 0 on a refusal
@@ -114,7 +118,7 @@ pub record LeftJudged : Type 0 where
   pub ground : ℕ
   pub work : Work
 
-unfoldable pub judgeOn : Inputs → (selection : List ℕ) → Work → LeftJudged
-judgeOn i s work =
-    let o = judgeCall eightSteps i s work in
+unfoldable pub judgeOn : (table : List ℤ) → Inputs → (selection : List ℕ) → Work → LeftJudged
+judgeOn table i s work =
+    let o = judgeCall table i s work in
     record { answer = judgedAnswer (o .answer); index = judgedIndex (o .answer); verdict = judgedVerdict (o .answer); ground = judgedGround (o .answer); work = o .work }

@@ -15,6 +15,7 @@ pub fn begin_on(
     edges: &[i32],
     block_base: &[u8],
     allow_base: &[u8],
+    steps: &[i32],
     rec: &mut [u32],
     counts: &mut [i32],
     map: &mut [u8],
@@ -28,7 +29,7 @@ pub fn begin_on(
     index: &mut u32,
 ) -> u32
     ensures { λ r. ⌜
-        beginOn
+        beginOn (now (steps .entry))
         (inputsOf query
         (now (groups .entry)) (now (numbers .entry)) (now (edges .entry)) (now («block_base» .entry)) (now («allow_base» .entry)))
         limits (now (rec .entry))
@@ -52,6 +53,7 @@ pub fn begin_on(
         edges,
         block_base,
         allow_base,
+        steps,
         counts,
         map,
         queue,
@@ -74,6 +76,7 @@ pub fn step_on(
     edges: &[i32],
     block_base: &[u8],
     allow_base: &[u8],
+    steps: &[i32],
     rec: &mut [u32],
     n: u32,
     counts: &mut [i32],
@@ -88,7 +91,7 @@ pub fn step_on(
     index: &mut u32,
 ) -> u32
     ensures { λ r. ⌜
-        stepOn
+        stepOn (now (steps .entry))
         (inputsOf query
         (now (groups .entry)) (now (numbers .entry)) (now (edges .entry)) (now («block_base» .entry)) (now («allow_base» .entry)))
         limits (now (rec .entry)) n
@@ -113,6 +116,7 @@ pub fn step_on(
         edges,
         block_base,
         allow_base,
+        steps,
         given,
         n,
         counts,

@@ -16,7 +16,6 @@ ghost use mathlib.Core.List.{List};
 ghost use lib.ListN.{length};
 ghost use Rattle.base_model.specs.Answers.{replyOf};
 ghost use Rattle.base_model.specs.declared.Placement.{Placement};
-ghost use Rattle.rule_routes.specs.Edges.{eightSteps};
 ghost use Rattle.rule_calls.specs.Areas.{workIn, storeIn};
 ghost use Rattle.rule_calls.specs.Calls.{stepCall};
 ghost use Rattle.walls_rows.specs.Rows.{rowsOf};
@@ -31,6 +30,7 @@ fn step_core(
     count: usize,
     block_base: &[u8],
     allow_base: &[u8],
+    steps: &[i32],
     rec: Record,
     n: u32,
     counts: &mut [i32],
@@ -45,7 +45,7 @@ fn step_core(
 ) -> Reply
     ensures { λ r. ⌜
         ((ps : List Placement) → rows ≡ rowsOf ps → count ≡ length ps
-        → stepCall eightSteps
+        → stepCall (now (steps .entry))
         (given query (now (groups .entry)) ps (now («block_base» .entry)) (now («allow_base» .entry)))
         limits rec n
         (workIn (now (counts .entry)) (now (map .entry)) (now (queue .entry)) (now (predecessors .entry)) (now (route .entry)))
@@ -72,6 +72,7 @@ fn step_core(
         &edges[..eights],
         block_base,
         allow_base,
+        steps,
         rec,
         n,
         counts,
@@ -94,6 +95,7 @@ pub fn step(
     places: &[Placement],
     block_base: &[u8],
     allow_base: &[u8],
+    steps: &[i32],
     rec: &mut Record,
     n: u32,
     counts: &mut [i32],
@@ -107,7 +109,7 @@ pub fn step(
     points: &mut [u32],
 ) -> Answer
     ensures { λ r. ⌜
-        stepCall eightSteps
+        stepCall (now (steps .entry))
         (given query (now (groups .entry)) (now (places .entry)) (now («block_base» .entry)) (now («allow_base» .entry)))
         limits (now (rec .entry)) n
         (workIn (now (counts .entry)) (now (map .entry)) (now (queue .entry)) (now (predecessors .entry)) (now (route .entry)))
@@ -129,6 +131,7 @@ pub fn step(
         places.len(),
         block_base,
         allow_base,
+        steps,
         *rec,
         n,
         counts,

@@ -1,4 +1,4 @@
--- `call_begin::begin_checked` meets its contract: what the checks before it found makes the areas long enough to be cleared; then each return is the arm of `beginCall` that the late checks choose.
+-- `call_begin::begin_checked` meets its contract: what the checks before it found makes the areas long enough to be cleared; then each return is the arm of `beginOver` that the late checks choose.
 use borrow.Author.Needs.{needs}
 use mathlib.Core.Path.{_≡_, refl, sym, ap, subst, _∙_}
 use Prim.Native.Nat.{ℕ}
@@ -6,7 +6,7 @@ use native.Mathlib.Omega.{arith}
 use lib.ListN.{length}
 use Rattle.rule_calls.proofs.StepLaws.{first-both}
 use Rattle.base_model.specs.Answers.{replyOf}
-use Rattle.rule_routes.specs.Edges.{eightSteps}
+use Rattle.rule_routes.specs.Edges.{stepsOf}
 use Rattle.rule_layouts.specs.Flat.{placementsOf, inputsOf}
 use Rattle.rule_layouts.specs.Inputs.{boardOf}
 use Rattle.rule_search.specs.Frames.{begun}
@@ -189,7 +189,7 @@ returns c =
     let w = workIn (a .counts .now) (a .map .now) (a .queue .now) (a .predecessors .now) (a .route .now) in
     let s = storeIn (a .lists .now) (a .visited .now) (a .layouts .now) (a .points .now) in
     let p = late-checks₁₀ at-match .late-checks .ensures in
-    later-refused eightSteps i (a .limits) w s (start .pre) (work-same _ _ (p .1) ∙ clear-work₁₀ at-match .clear-work .ensures)
+    later-refused (stepsOf (a .steps .now)) i (a .limits) w s (start .pre) (work-same _ _ (p .1) ∙ clear-work₁₀ at-match .clear-work .ensures)
     (refused-says (p .0) (c .before .before .looked .given .1)) (c .no-record .ensures)
 
 enum-told : tie.Need-enum-told
@@ -221,7 +221,8 @@ cast-begun-record c =
     let w = workIn (a .counts .now) (a .map .now) (a .queue .now) (a .predecessors .now) (a .route .now) in
     let s = storeIn (a .lists .now) (a .visited .now) (a .layouts .now) (a .points .now) in
     let n : at-place-count .place-count .result ≡ length (placementsOf (a .numbers .now) (a .edges .now)) = at-place-count .place-count .ensures (a .numbers .now) (a .edges .now) refl refl in
-    let f = first-both (bothRoutes (boardOf eightSteps i)) (placeChecks i) (done-passes (late-checks₁₅ (c .before) .late-checks .ensures .0) (enum-told₁₅ (c .before) .enum-told .given .1)) .1 in
+    let f = first-both (bothRoutes (boardOf (stepsOf (a .steps .now)) i)) (placeChecks i)
+    (done-passes (late-checks₁₅ (c .before) .late-checks .ensures .0) (enum-told₁₅ (c .before) .enum-told .given .1)) .1 in
     omega (arith, n, places-whole i (a .numbers .now) (a .edges .now) refl f .few)
 
 begun-record-requires : tie.Need-begun-record-requires
@@ -236,17 +237,17 @@ same-length-7 c = clear-work₁₅ (c .before .before) .clear-work .kept .1 .1 .
 same-length-8 : tie.Need-same-length-8
 same-length-8 c =
     let at-points = c .before .before in
-    late-checks₁₅ at-points .late-checks .kept .1 .1 .1 .1 .1 .1 .0 ∙ clear-work₁₅ at-points .clear-work .kept .1 .1 .1 .0
+    late-checks₁₅ at-points .late-checks .kept .1 .1 .1 .1 .1 .1 .1 .0 ∙ clear-work₁₅ at-points .clear-work .kept .1 .1 .1 .0
 
 same-length-9 : tie.Need-same-length-9
 same-length-9 c =
     let at-points = c .before .before in
-    late-checks₁₅ at-points .late-checks .kept .1 .1 .1 .1 .1 .1 .1 .0 ∙ clear-work₁₅ at-points .clear-work .kept .1 .1 .1 .1 .0
+    late-checks₁₅ at-points .late-checks .kept .1 .1 .1 .1 .1 .1 .1 .1 .0 ∙ clear-work₁₅ at-points .clear-work .kept .1 .1 .1 .1 .0
 
 same-length-10 : tie.Need-same-length-10
 same-length-10 c =
     let at-points = c .before .before in
-    late-checks₁₅ at-points .late-checks .kept .1 .1 .1 .1 .1 .1 .1 .1 .0 ∙ clear-work₁₅ at-points .clear-work .kept .1 .1 .1 .1 .1 .0
+    late-checks₁₅ at-points .late-checks .kept .1 .1 .1 .1 .1 .1 .1 .1 .1 .0 ∙ clear-work₁₅ at-points .clear-work .kept .1 .1 .1 .1 .1 .0
 
 same-length-11 : tie.Need-same-length-11
 same-length-11 c = clear-store₁₅ (c .before .before) .clear-store .kept .1 .1 .1 .0
@@ -272,7 +273,8 @@ returns-2 c =
     let s = storeIn (a .lists .now) (a .visited .now) (a .layouts .now) (a .points .now) in
     let n : at-place-count .place-count .result ≡ length (placementsOf (a .numbers .now) (a .edges .now)) = at-place-count .place-count .ensures (a .numbers .now) (a .edges .now) refl refl in
     let p = late-checks₁₅ at-points .late-checks .ensures in
-    accepts eightSteps i (a .limits) w s (start .pre) (work-same _ _ (p .1) ∙ clear-work₁₅ at-points .clear-work .ensures) (done-passes (p .0) (enum-told₁₅ at-points .enum-told .given .1))
+    accepts (stepsOf (a .steps .now)) i (a .limits) w s (start .pre) (work-same _ _ (p .1) ∙ clear-work₁₅ at-points .clear-work .ensures)
+    (done-passes (p .0) (enum-told₁₅ at-points .enum-told .given .1))
     (c .begun-record .ensures ∙ ap (λ (k : ℕ). recordOf k begun) n) (clear-store₁₅ at-points .clear-store .ensures i refl (sym n))
 
 pub begin-checked-spec : {M : Type 1} → statement M

@@ -1,6 +1,6 @@
 -- `call_judge::judge_checked` meets its contract: the working areas are cleared, and judging leaves them so.
 use mathlib.Core.Path.{_∙_}
-use Rattle.rule_routes.specs.Edges.{eightSteps}
+use Rattle.rule_routes.specs.Edges.{stepsOf}
 use Rattle.rule_layouts.specs.Flat.{inputsOf}
 use Rattle.rule_calls.specs.Areas.{workIn}
 use Rattle.call_judge.proofs.Choosing.{chosen, work-passes}
@@ -73,10 +73,10 @@ clear-work-requires : tie.Need-clear-work-requires
 clear-work-requires c κs =
     let start = start₄ (c .before) in
     let a = start .args in (
-      chosen (a .query) (a .groups .now) (a .numbers .now) (a .edges .now) (a .block-base .now) (a .allow-base .now) (a .selection .now)
-          (workIn (a .counts .now) (a .map .now) (a .queue .now) (a .predecessors .now) (a .route .now)) (start .pre) .fits,
+      chosen (a .query) (a .groups .now) (a .numbers .now) (a .edges .now) (a .block-base .now) (a .allow-base .now) (a .steps .now) (a .selection .now)
+          (workIn (a .counts .now) (a .map .now) (a .queue .now) (a .predecessors .now) (a .route .now)) (start .pre .0) (start .pre .1) .fits,
       work-passes (a .query) (a .groups .now) (a .numbers .now) (a .edges .now) (a .block-base .now) (a .allow-base .now)
-          (a .selection .now) (workIn (a .counts .now) (a .map .now) (a .queue .now) (a .predecessors .now) (a .route .now)) (start .pre),
+          (a .selection .now) (workIn (a .counts .now) (a .map .now) (a .queue .now) (a .predecessors .now) (a .route .now)) (start .pre .0),
     )
 
 judged-in-requires : tie.Need-judged-in-requires
@@ -84,8 +84,8 @@ judged-in-requires c κs =
     let start = start₈ (c .before) in
     let a = start .args in
     let k = clear-work₈ (c .before) .clear-work in (
-      chosen (a .query) (a .groups .now) (a .numbers .now) (a .edges .now) (a .block-base .now) (a .allow-base .now) (a .selection .now)
-          (workIn (a .counts .now) (a .map .now) (a .queue .now) (a .predecessors .now) (a .route .now)) (start .pre),
+      chosen (a .query) (a .groups .now) (a .numbers .now) (a .edges .now) (a .block-base .now) (a .allow-base .now) (a .steps .now) (a .selection .now)
+          (workIn (a .counts .now) (a .map .now) (a .queue .now) (a .predecessors .now) (a .route .now)) (start .pre .0) (start .pre .1),
       clean-work (a .query .window) (workIn (a .counts .now) (a .map .now) (a .queue .now) (a .predecessors .now) (a .route .now))
           (workIn (k .last .1 .0) (k .last .1 .1 .0) (k .last .1 .1 .1 .0) (k .last .1 .1 .1 .1 .0) (k .last .1 .1 .1 .1 .1 .0)) (k .ensures),
     )
@@ -96,22 +96,22 @@ same-length c = clear-work₁₀ (c .before .before .before) .clear-work .kept .
 same-length-2 : tie.Need-same-length-2
 same-length-2 c =
     let at-predecessors2 = c .before .before .before in
-    judged-in₁₀ at-predecessors2 .judged-in .kept .1 .1 .1 .1 .1 .1 .1 .0 ∙ clear-work₁₀ at-predecessors2 .clear-work .kept .1 .1 .0
+    judged-in₁₀ at-predecessors2 .judged-in .kept .1 .1 .1 .1 .1 .1 .1 .1 .0 ∙ clear-work₁₀ at-predecessors2 .clear-work .kept .1 .1 .0
 
 same-length-3 : tie.Need-same-length-3
 same-length-3 c =
     let at-predecessors2 = c .before .before .before in
-    judged-in₁₀ at-predecessors2 .judged-in .kept .1 .1 .1 .1 .1 .1 .1 .1 .0 ∙ clear-work₁₀ at-predecessors2 .clear-work .kept .1 .1 .1 .0
+    judged-in₁₀ at-predecessors2 .judged-in .kept .1 .1 .1 .1 .1 .1 .1 .1 .1 .0 ∙ clear-work₁₀ at-predecessors2 .clear-work .kept .1 .1 .1 .0
 
 same-length-4 : tie.Need-same-length-4
 same-length-4 c =
     let at-predecessors2 = c .before .before .before in
-    judged-in₁₀ at-predecessors2 .judged-in .kept .1 .1 .1 .1 .1 .1 .1 .1 .1 .0 ∙ clear-work₁₀ at-predecessors2 .clear-work .kept .1 .1 .1 .1 .0
+    judged-in₁₀ at-predecessors2 .judged-in .kept .1 .1 .1 .1 .1 .1 .1 .1 .1 .1 .0 ∙ clear-work₁₀ at-predecessors2 .clear-work .kept .1 .1 .1 .1 .0
 
 same-length-5 : tie.Need-same-length-5
 same-length-5 c =
     let at-predecessors2 = c .before .before .before in
-    judged-in₁₀ at-predecessors2 .judged-in .kept .1 .1 .1 .1 .1 .1 .1 .1 .1 .1 .0 ∙ clear-work₁₀ at-predecessors2 .clear-work .kept .1 .1 .1 .1 .1 .0
+    judged-in₁₀ at-predecessors2 .judged-in .kept .1 .1 .1 .1 .1 .1 .1 .1 .1 .1 .1 .0 ∙ clear-work₁₀ at-predecessors2 .clear-work .kept .1 .1 .1 .1 .1 .0
 
 returns : tie.Need-returns
 unfolding inputsOf
@@ -121,9 +121,9 @@ returns c =
     let start = start₁₀ at-predecessors2 in
     let a = start .args in
     let k = clear-work₁₀ at-predecessors2 .clear-work in
-    judge-accepted eightSteps
+    judge-accepted (stepsOf (a .steps .now))
     (inputsOf (a .query) (a .groups .now) (a .numbers .now) (a .edges .now) (a .block-base .now) (a .allow-base .now))
-    (a .selection .now) (workIn (a .counts .now) (a .map .now) (a .queue .now) (a .predecessors .now) (a .route .now)) (start .pre) _
+    (a .selection .now) (workIn (a .counts .now) (a .map .now) (a .queue .now) (a .predecessors .now) (a .route .now)) (start .pre .0) _
     (at-judged-in .judged-in .ensures .0) _ (same-work (at-judged-in .judged-in .ensures .1) ∙ k .ensures)
 
 pub judge-checked-spec : {M : Type 1} → statement M

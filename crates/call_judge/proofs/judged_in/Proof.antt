@@ -179,7 +179,7 @@ same-length c =
     let a = start .args in
     ap length (part-back 0 (centres (a .query .window)) (a .map .now) (start .pre .1 .mapClear)
     (at-width .width .result * at-height .height .result) (ap₂ _*_ (at-width .width .ensures .0) (at-height .height .ensures .0))
-    (at-judged .judged .last .1 .1 .1 .1 .1 .1 .1 .0) (at-judged .judged .ensures .1 .mapClear))
+    (at-judged .judged .last .1 .1 .1 .1 .1 .1 .1 .1 .0) (at-judged .judged .ensures .1 .mapClear))
 
 same-length-2 : tie.Need-same-length-2
 unfolding centres
@@ -191,7 +191,7 @@ same-length-2 c =
     let a = start .args in
     ap length (part-back 0 (centres (a .query .window)) (a .queue .now) (start .pre .1 .queueClear)
     (at-width .width .result * at-height .height .result) (ap₂ _*_ (at-width .width .ensures .0) (at-height .height .ensures .0))
-    (at-judged .judged .last .1 .1 .1 .1 .1 .1 .1 .1 .0) (at-judged .judged .ensures .1 .queueClear))
+    (at-judged .judged .last .1 .1 .1 .1 .1 .1 .1 .1 .1 .0) (at-judged .judged .ensures .1 .queueClear))
 
 same-length-3 : tie.Need-same-length-3
 unfolding centres
@@ -203,7 +203,7 @@ same-length-3 c =
     let a = start .args in
     ap length (part-back 0 (centres (a .query .window)) (a .predecessors .now) (start .pre .1 .predecessorsClear)
     (at-width .width .result * at-height .height .result) (ap₂ _*_ (at-width .width .ensures .0) (at-height .height .ensures .0))
-    (at-judged .judged .last .1 .1 .1 .1 .1 .1 .1 .1 .1 .0) (at-judged .judged .ensures .1 .predecessorsClear))
+    (at-judged .judged .last .1 .1 .1 .1 .1 .1 .1 .1 .1 .1 .0) (at-judged .judged .ensures .1 .predecessorsClear))
 
 same-length-4 : tie.Need-same-length-4
 unfolding centres
@@ -215,7 +215,7 @@ same-length-4 c =
     let a = start .args in
     ap length (part-back 0 (centres (a .query .window)) (a .route .now) (start .pre .1 .routeClear)
     (at-width .width .result * at-height .height .result) (ap₂ _*_ (at-width .width .ensures .0) (at-height .height .ensures .0))
-    (at-judged .judged .last .1 .1 .1 .1 .1 .1 .1 .1 .1 .1 .0) (at-judged .judged .ensures .1 .routeClear))
+    (at-judged .judged .last .1 .1 .1 .1 .1 .1 .1 .1 .1 .1 .1 .0) (at-judged .judged .ensures .1 .routeClear))
 
 returns : tie.Need-returns
 unfolding centres
@@ -229,16 +229,16 @@ returns c =
       record {
         mapSame = part-back 0 (centres (a .query .window)) (a .map .now) (start .pre .1 .mapClear)
             (at-width .width .result * at-height .height .result) (ap₂ _*_ (at-width .width .ensures .0) (at-height .height .ensures .0))
-            (at-judged .judged .last .1 .1 .1 .1 .1 .1 .1 .0) (at-judged .judged .ensures .1 .mapClear);
+            (at-judged .judged .last .1 .1 .1 .1 .1 .1 .1 .1 .0) (at-judged .judged .ensures .1 .mapClear);
         queueSame = part-back 0 (centres (a .query .window)) (a .queue .now) (start .pre .1 .queueClear)
             (at-width .width .result * at-height .height .result) (ap₂ _*_ (at-width .width .ensures .0) (at-height .height .ensures .0))
-            (at-judged .judged .last .1 .1 .1 .1 .1 .1 .1 .1 .0) (at-judged .judged .ensures .1 .queueClear);
+            (at-judged .judged .last .1 .1 .1 .1 .1 .1 .1 .1 .1 .0) (at-judged .judged .ensures .1 .queueClear);
         predecessorsSame = part-back 0 (centres (a .query .window)) (a .predecessors .now) (start .pre .1 .predecessorsClear)
             (at-width .width .result * at-height .height .result) (ap₂ _*_ (at-width .width .ensures .0) (at-height .height .ensures .0))
-            (at-judged .judged .last .1 .1 .1 .1 .1 .1 .1 .1 .1 .0) (at-judged .judged .ensures .1 .predecessorsClear);
+            (at-judged .judged .last .1 .1 .1 .1 .1 .1 .1 .1 .1 .1 .0) (at-judged .judged .ensures .1 .predecessorsClear);
         routeSame = part-back 0 (centres (a .query .window)) (a .route .now) (start .pre .1 .routeClear)
             (at-width .width .result * at-height .height .result) (ap₂ _*_ (at-width .width .ensures .0) (at-height .height .ensures .0))
-            (at-judged .judged .last .1 .1 .1 .1 .1 .1 .1 .1 .1 .1 .0) (at-judged .judged .ensures .1 .routeClear);
+            (at-judged .judged .last .1 .1 .1 .1 .1 .1 .1 .1 .1 .1 .1 .0) (at-judged .judged .ensures .1 .routeClear);
       },
     )
 

@@ -1,7 +1,7 @@
 -- `call_movers::late_checks` meets its contract: the routes' refusal answers, or that of the placements.
 use borrow.Author.Needs.{needs}
 use mathlib.Core.Path.{refl, sym, ap₂, _∙_}
-use Rattle.rule_routes.specs.Edges.{eightSteps}
+use Rattle.rule_routes.specs.Edges.{stepsOf}
 use Rattle.rule_layouts.specs.Flat.{inputsOf}
 use Rattle.rule_layouts.specs.Inputs.{boardOf}
 use Rattle.rule_calls.specs.Checks.{placeChecks}
@@ -63,7 +63,7 @@ returns c =
     let p = check-routes₄ at-route .check-routes .ensures in (
       c .first-of .ensures ∙ ap₂ orElse
           (p .0 i (bases-of (a .query) (a .groups .now) (a .numbers .now) (a .edges .now) (a .block-base .now) (a .allow-base .now)))
-          (c .before .check-places .ensures i refl refl refl) ∙ sym (first-or (bothRoutes (boardOf eightSteps i)) (placeChecks i)),
+          (c .before .check-places .ensures i refl refl refl) ∙ sym (first-or (bothRoutes (boardOf (stepsOf (a .steps .now)) i)) (placeChecks i)),
       p .1,
     )
 

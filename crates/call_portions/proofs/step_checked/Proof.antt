@@ -1,5 +1,4 @@
 -- `call_portions::step_checked` meets its contract: the search that was read is laid back, goes on, and is left as the definition leaves it.
-use borrow.Author.Needs.{needs}
 use mathlib.Core.Path.{_∙_}
 use lib.ListN.{length-map}
 use Rattle.call_portions.proofs.Found.{work-asks, passing, unused-asks, holds, held}
@@ -65,26 +64,23 @@ clear-unused-arg3₉ c = c .before .before .before
 abbrev lists₁₀ : tie.After-layouts → tie.After-lists
 lists₁₀ c = c .before .before .before .before
 
-abbrev layouts₁₁ : tie.After-original-steps → tie.After-layouts
-layouts₁₁ c = c .before .before .before .before
+abbrev layouts₁₁ : tie.After-points → tie.After-layouts
+layouts₁₁ c = c .before .before
 
-abbrev original-steps₁₂ : tie.After-portions-arg3 → tie.After-original-steps
-original-steps₁₂ c = c .before .before .before .before
+abbrev points₁₂ : tie.After-portions-arg3 → tie.After-points
+points₁₂ c = c .before .before .before .before
 
 abbrev clear-unused₁₂ : tie.After-portions-arg3 → tie.After-clear-unused
-clear-unused₁₂ c = clear-unused₉ (lists₁₀ (layouts₁₁ (original-steps₁₂ c)))
+clear-unused₁₂ c = clear-unused₉ (lists₁₀ (layouts₁₁ (points₁₂ c)))
 
 abbrev clear-work₁₂ : tie.After-portions-arg3 → tie.After-clear-work
-clear-work₁₂ c = clear-work₈ (clear-unused-arg3₉ (lists₁₀ (layouts₁₁ (original-steps₁₂ c))))
+clear-work₁₂ c = clear-work₈ (clear-unused-arg3₉ (lists₁₀ (layouts₁₁ (points₁₂ c))))
 
 abbrev start₁₂ : tie.After-portions-arg3 → tie.Start
-start₁₂ c = start₈ (clear-unused-arg3₉ (lists₁₀ (layouts₁₁ (original-steps₁₂ c))))
+start₁₂ c = start₈ (clear-unused-arg3₉ (lists₁₀ (layouts₁₁ (points₁₂ c))))
 
 abbrev portions-arg3₁₃ : tie.After-portions-arg7 → tie.After-portions-arg3
 portions-arg3₁₃ c = c .before .before .before .before
-
-abbrev original-steps₁₃ : tie.After-portions-arg7 → tie.After-original-steps
-original-steps₁₃ c = original-steps₁₂ (portions-arg3₁₃ c)
 
 abbrev clear-unused₁₃ : tie.After-portions-arg7 → tie.After-clear-unused
 clear-unused₁₃ c = clear-unused₁₂ (portions-arg3₁₃ c)
@@ -113,9 +109,6 @@ lists2₁₇ c = c .before .before .before .before
 abbrev portions₁₇ : tie.After-layouts2 → tie.After-portions
 portions₁₇ c = portions₁₄ (map2₁₅ (predecessors2₁₆ (lists2₁₇ c)))
 
-abbrev original-steps₁₇ : tie.After-layouts2 → tie.After-original-steps
-original-steps₁₇ c = original-steps₁₃ (portions-arg7₁₄ (map2₁₅ (predecessors2₁₆ (lists2₁₇ c))))
-
 abbrev clear-unused₁₇ : tie.After-layouts2 → tie.After-clear-unused
 clear-unused₁₇ c = clear-unused₁₃ (portions-arg7₁₄ (map2₁₅ (predecessors2₁₆ (lists2₁₇ c))))
 
@@ -126,29 +119,23 @@ abbrev start₁₇ : tie.After-layouts2 → tie.Start
 start₁₇ c = start₁₃ (portions-arg7₁₄ (map2₁₅ (predecessors2₁₆ (lists2₁₇ c))))
 
 clear-work-requires : tie.Need-clear-work-requires
-clear-work-requires c κs = work-asks _ _ _ _ _ _ _ _ _ _ _ _ _ (start₄ (c .before) .pre)
+clear-work-requires c κs = work-asks _ _ _ _ _ _ _ _ _ _ _ _ _ _ (start₄ (c .before) .pre .0) (start₄ (c .before) .pre .1)
 
 clear-unused-requires : tie.Need-clear-unused-requires
-clear-unused-requires c κs = unused-asks _ _ _ _ _ _ _ _ _ _ _ _ _ (start₈ (c .before) .pre)
-
-original-steps-requires : tie.Need-original-steps-requires
-original-steps-requires c κs = search needs
-
-slice-aggregate-portions : tie.Need-slice-aggregate-portions
-slice-aggregate-portions c = search needs
+clear-unused-requires c κs = unused-asks _ _ _ _ _ _ _ _ _ _ _ _ _ _ (start₈ (c .before) .pre .0) (start₈ (c .before) .pre .1)
 
 portions-requires : tie.Need-portions-requires
 portions-requires c κs =
     let start = start₁₃ (c .before) in (
-      held _ _ _ _ _ _ _ _ _ _ _ _ _ (start .pre) _ (original-steps₁₃ (c .before) .original-steps .ensures)
-          (let g = start .good .1 .1 .1 .1 .1 .1 .1 .0 .1 .1 in
+      held _ _ _ _ _ _ _ _ _ _ _ _ _ _ (start .pre .0) (start .pre .1)
+          (let g = start .good .1 .1 .1 .1 .1 .1 .1 .1 .0 .1 .1 in
           record {
             routes = simp length-map at (g .1 .1 .1 .1 .1 .1 .0 .1 .0 .1);
             lengths =
                 simp length-map at (g .1 .1 .1 .1 .1 .1 .1 .0 .1 .0 .1);
             nexts = simp length-map at (g .1 .1 .1 .1 .1 .1 .1 .1 .0 .1 .0 .1);
           }) _ _
-          (clear-unused₁₃ (c .before) .clear-unused .ensures _ (passing _ _ _ _ _ _ _ _ _ _ _ _ _ (start .pre))),
+          (clear-unused₁₃ (c .before) .clear-unused .ensures _ (passing _ _ _ _ _ _ _ _ _ _ _ _ _ _ (start .pre .0) (start .pre .1))),
       clear-after _ _ _ _ _ _ _ (clear-work₁₃ (c .before) .clear-work .ensures),
     )
 
@@ -199,23 +186,22 @@ returns : tie.Need-returns
 returns c =
     let at-layouts2 = c .before .before .before in
     let at-portions = portions₁₇ at-layouts2 in
-    let at-original-steps = original-steps₁₇ at-layouts2 in
     let start = start₁₇ at-layouts2 in
-    stepped _ _ _ _ _ _ _ _ _ _ _ (start .pre) _ (at-original-steps .original-steps .ensures) _ _ _
+    stepped _ _ _ _ _ _ _ _ _ _ _ _ (start .pre .0) (start .pre .1) _ _ _
     (work-after _ _ _ _ _ _ _ (clear-work₁₇ at-layouts2 .clear-work .ensures) _ _ _ _ (at-portions .portions .ensures .1))
     (at-portions .portions .ensures .0 _ _
-    (holds _ _ _ _ _ _ _ _ _ _ _ _ _ (start .pre) _ (at-original-steps .original-steps .ensures)
-    (let g = start .good .1 .1 .1 .1 .1 .1 .1 .0 .1 .1 in
+    (holds _ _ _ _ _ _ _ _ _ _ _ _ _ _ (start .pre .0) (start .pre .1)
+    (let g = start .good .1 .1 .1 .1 .1 .1 .1 .1 .0 .1 .1 in
     record {
       routes = simp length-map at (g .1 .1 .1 .1 .1 .1 .0 .1 .0 .1);
       lengths =
           simp length-map at (g .1 .1 .1 .1 .1 .1 .1 .0 .1 .0 .1);
       nexts = simp length-map at (g .1 .1 .1 .1 .1 .1 .1 .1 .0 .1 .0 .1);
     }) _ _
-    (clear-unused₁₇ at-layouts2 .clear-unused .ensures _ (passing _ _ _ _ _ _ _ _ _ _ _ _ _ (start .pre)))))
+    (clear-unused₁₇ at-layouts2 .clear-unused .ensures _ (passing _ _ _ _ _ _ _ _ _ _ _ _ _ _ (start .pre .0) (start .pre .1)))))
 
 pub step-checked-spec : {M : Type 1} → statement M
 step-checked-spec =
     tie.close
-    (tie.spec clear-work-requires clear-unused-requires original-steps-requires slice-aggregate-portions portions-requires same-length same-length-2 same-length-3
+    (tie.spec clear-work-requires clear-unused-requires portions-requires same-length same-length-2 same-length-3
     same-length-4 same-length-5 same-length-6 same-length-7 same-length-8 same-length-9 returns)

@@ -94,56 +94,56 @@ width₇ c = width₅ (predecessors₆ (route₇ c))
 abbrev start₇ : tie.After-mark-baseline → tie.Start
 start₇ c = start₆ (route₇ c)
 
-abbrev mark-baseline₈ : tie.After-original-steps → tie.After-mark-baseline
-mark-baseline₈ c = c .before .before .before .before
+abbrev mark-baseline₈ : tie.After-baseline → tie.After-mark-baseline
+mark-baseline₈ c = c .before .before
 
-abbrev clear-u323₈ : tie.After-original-steps → tie.After-clear-u323
+abbrev clear-u323₈ : tie.After-baseline → tie.After-clear-u323
 clear-u323₈ c = clear-u323₇ (mark-baseline₈ c)
 
-abbrev clear-u322₈ : tie.After-original-steps → tie.After-clear-u322
+abbrev clear-u322₈ : tie.After-baseline → tie.After-clear-u322
 clear-u322₈ c = clear-u322₇ (mark-baseline₈ c)
 
-abbrev clear-u32₈ : tie.After-original-steps → tie.After-clear-u32
+abbrev clear-u32₈ : tie.After-baseline → tie.After-clear-u32
 clear-u32₈ c = clear-u32₇ (mark-baseline₈ c)
 
-abbrev clear-bytes₈ : tie.After-original-steps → tie.After-clear-bytes
+abbrev clear-bytes₈ : tie.After-baseline → tie.After-clear-bytes
 clear-bytes₈ c = clear-bytes₇ (mark-baseline₈ c)
 
-abbrev height₈ : tie.After-original-steps → tie.After-height
+abbrev height₈ : tie.After-baseline → tie.After-height
 height₈ c = height₇ (mark-baseline₈ c)
 
-abbrev width₈ : tie.After-original-steps → tie.After-width
+abbrev width₈ : tie.After-baseline → tie.After-width
 width₈ c = width₇ (mark-baseline₈ c)
 
-abbrev start₈ : tie.After-original-steps → tie.Start
+abbrev start₈ : tie.After-baseline → tie.Start
 start₈ c = start₇ (mark-baseline₈ c)
 
-abbrev original-steps₉ : tie.After-steps → tie.After-original-steps
-original-steps₉ c = c .before .before
+abbrev baseline₉ : tie.After-check-passage-arg3 → tie.After-baseline
+baseline₉ c = c .before .before .before .before
 
-abbrev mark-baseline₉ : tie.After-steps → tie.After-mark-baseline
-mark-baseline₉ c = mark-baseline₈ (original-steps₉ c)
+abbrev mark-baseline₉ : tie.After-check-passage-arg3 → tie.After-mark-baseline
+mark-baseline₉ c = mark-baseline₈ (baseline₉ c)
 
-abbrev clear-u323₉ : tie.After-steps → tie.After-clear-u323
-clear-u323₉ c = clear-u323₈ (original-steps₉ c)
+abbrev clear-u323₉ : tie.After-check-passage-arg3 → tie.After-clear-u323
+clear-u323₉ c = clear-u323₈ (baseline₉ c)
 
-abbrev clear-u322₉ : tie.After-steps → tie.After-clear-u322
-clear-u322₉ c = clear-u322₈ (original-steps₉ c)
+abbrev clear-u322₉ : tie.After-check-passage-arg3 → tie.After-clear-u322
+clear-u322₉ c = clear-u322₈ (baseline₉ c)
 
-abbrev clear-u32₉ : tie.After-steps → tie.After-clear-u32
-clear-u32₉ c = clear-u32₈ (original-steps₉ c)
+abbrev clear-u32₉ : tie.After-check-passage-arg3 → tie.After-clear-u32
+clear-u32₉ c = clear-u32₈ (baseline₉ c)
 
-abbrev height₉ : tie.After-steps → tie.After-height
-height₉ c = height₈ (original-steps₉ c)
+abbrev height₉ : tie.After-check-passage-arg3 → tie.After-height
+height₉ c = height₈ (baseline₉ c)
 
-abbrev width₉ : tie.After-steps → tie.After-width
-width₉ c = width₈ (original-steps₉ c)
+abbrev width₉ : tie.After-check-passage-arg3 → tie.After-width
+width₉ c = width₈ (baseline₉ c)
 
-abbrev start₉ : tie.After-steps → tie.Start
-start₉ c = start₈ (original-steps₉ c)
+abbrev start₉ : tie.After-check-passage-arg3 → tie.Start
+start₉ c = start₈ (baseline₉ c)
 
-abbrev steps₁₀ : tie.After-check-passage → tie.After-steps
-steps₁₀ c = c .before .before .before .before
+abbrev check-passage-arg3₁₀ : tie.After-check-passage → tie.After-check-passage-arg3
+check-passage-arg3₁₀ c = c .before .before
 
 abbrev check-passage₁₁ : tie.After-predecessors2 → tie.After-check-passage
 check-passage₁₁ c = c .before .before .before
@@ -152,16 +152,16 @@ abbrev predecessors2₁₂ : tie.At-match-keys1 → tie.After-predecessors2
 predecessors2₁₂ c = c .before .before .before .before
 
 abbrev mark-baseline₁₂ : tie.At-match-keys1 → tie.After-mark-baseline
-mark-baseline₁₂ c = mark-baseline₉ (steps₁₀ (check-passage₁₁ (predecessors2₁₂ c)))
+mark-baseline₁₂ c = mark-baseline₉ (check-passage-arg3₁₀ (check-passage₁₁ (predecessors2₁₂ c)))
 
 abbrev height₁₂ : tie.At-match-keys1 → tie.After-height
-height₁₂ c = height₉ (steps₁₀ (check-passage₁₁ (predecessors2₁₂ c)))
+height₁₂ c = height₉ (check-passage-arg3₁₀ (check-passage₁₁ (predecessors2₁₂ c)))
 
 abbrev width₁₂ : tie.At-match-keys1 → tie.After-width
-width₁₂ c = width₉ (steps₁₀ (check-passage₁₁ (predecessors2₁₂ c)))
+width₁₂ c = width₉ (check-passage-arg3₁₀ (check-passage₁₁ (predecessors2₁₂ c)))
 
 abbrev start₁₂ : tie.At-match-keys1 → tie.Start
-start₁₂ c = start₉ (steps₁₀ (check-passage₁₁ (predecessors2₁₂ c)))
+start₁₂ c = start₉ (check-passage-arg3₁₀ (check-passage₁₁ (predecessors2₁₂ c)))
 
 abbrev answer₁₃ : tie.After-clear-bytes2 → tie.After-answer
 answer₁₃ c = c .before .before .before
@@ -172,23 +172,20 @@ match₁₃ c = c .before .before .before .before
 abbrev check-passage₁₃ : tie.After-clear-bytes2 → tie.After-check-passage
 check-passage₁₃ c = check-passage₁₁ (predecessors2₁₂ (match₁₃ c))
 
-abbrev original-steps₁₃ : tie.After-clear-bytes2 → tie.After-original-steps
-original-steps₁₃ c = original-steps₉ (steps₁₀ (check-passage₁₁ (predecessors2₁₂ (match₁₃ c))))
-
 abbrev mark-baseline₁₃ : tie.After-clear-bytes2 → tie.After-mark-baseline
 mark-baseline₁₃ c = mark-baseline₁₂ (match₁₃ c)
 
 abbrev clear-u323₁₃ : tie.After-clear-bytes2 → tie.After-clear-u323
-clear-u323₁₃ c = clear-u323₉ (steps₁₀ (check-passage₁₁ (predecessors2₁₂ (match₁₃ c))))
+clear-u323₁₃ c = clear-u323₉ (check-passage-arg3₁₀ (check-passage₁₁ (predecessors2₁₂ (match₁₃ c))))
 
 abbrev clear-u322₁₃ : tie.After-clear-bytes2 → tie.After-clear-u322
-clear-u322₁₃ c = clear-u322₉ (steps₁₀ (check-passage₁₁ (predecessors2₁₂ (match₁₃ c))))
+clear-u322₁₃ c = clear-u322₉ (check-passage-arg3₁₀ (check-passage₁₁ (predecessors2₁₂ (match₁₃ c))))
 
 abbrev clear-u32₁₃ : tie.After-clear-bytes2 → tie.After-clear-u32
-clear-u32₁₃ c = clear-u32₉ (steps₁₀ (check-passage₁₁ (predecessors2₁₂ (match₁₃ c))))
+clear-u32₁₃ c = clear-u32₉ (check-passage-arg3₁₀ (check-passage₁₁ (predecessors2₁₂ (match₁₃ c))))
 
 abbrev clear-bytes₁₃ : tie.After-clear-bytes2 → tie.After-clear-bytes
-clear-bytes₁₃ c = clear-bytes₈ (original-steps₉ (steps₁₀ (check-passage₁₁ (predecessors2₁₂ (match₁₃ c)))))
+clear-bytes₁₃ c = clear-bytes₈ (baseline₉ (check-passage-arg3₁₀ (check-passage₁₁ (predecessors2₁₂ (match₁₃ c)))))
 
 abbrev height₁₃ : tie.After-clear-bytes2 → tie.After-height
 height₁₃ c = height₁₂ (match₁₃ c)
@@ -205,32 +202,29 @@ predecessors2₁₄ c = c .before .before .before .before
 abbrev check-passage₁₄ : tie.At-match-keys2 → tie.After-check-passage
 check-passage₁₄ c = check-passage₁₁ (predecessors2₁₄ c)
 
-abbrev original-steps₁₄ : tie.At-match-keys2 → tie.After-original-steps
-original-steps₁₄ c = original-steps₉ (steps₁₀ (check-passage₁₁ (predecessors2₁₄ c)))
-
 abbrev mark-baseline₁₄ : tie.At-match-keys2 → tie.After-mark-baseline
-mark-baseline₁₄ c = mark-baseline₉ (steps₁₀ (check-passage₁₁ (predecessors2₁₄ c)))
+mark-baseline₁₄ c = mark-baseline₉ (check-passage-arg3₁₀ (check-passage₁₁ (predecessors2₁₄ c)))
 
 abbrev clear-u323₁₄ : tie.At-match-keys2 → tie.After-clear-u323
-clear-u323₁₄ c = clear-u323₉ (steps₁₀ (check-passage₁₁ (predecessors2₁₄ c)))
+clear-u323₁₄ c = clear-u323₉ (check-passage-arg3₁₀ (check-passage₁₁ (predecessors2₁₄ c)))
 
 abbrev clear-u322₁₄ : tie.At-match-keys2 → tie.After-clear-u322
-clear-u322₁₄ c = clear-u322₉ (steps₁₀ (check-passage₁₁ (predecessors2₁₄ c)))
+clear-u322₁₄ c = clear-u322₉ (check-passage-arg3₁₀ (check-passage₁₁ (predecessors2₁₄ c)))
 
 abbrev clear-u32₁₄ : tie.At-match-keys2 → tie.After-clear-u32
-clear-u32₁₄ c = clear-u32₉ (steps₁₀ (check-passage₁₁ (predecessors2₁₄ c)))
+clear-u32₁₄ c = clear-u32₉ (check-passage-arg3₁₀ (check-passage₁₁ (predecessors2₁₄ c)))
 
 abbrev clear-bytes₁₄ : tie.At-match-keys2 → tie.After-clear-bytes
-clear-bytes₁₄ c = clear-bytes₈ (original-steps₉ (steps₁₀ (check-passage₁₁ (predecessors2₁₄ c))))
+clear-bytes₁₄ c = clear-bytes₈ (baseline₉ (check-passage-arg3₁₀ (check-passage₁₁ (predecessors2₁₄ c))))
 
 abbrev height₁₄ : tie.At-match-keys2 → tie.After-height
-height₁₄ c = height₉ (steps₁₀ (check-passage₁₁ (predecessors2₁₄ c)))
+height₁₄ c = height₉ (check-passage-arg3₁₀ (check-passage₁₁ (predecessors2₁₄ c)))
 
 abbrev width₁₄ : tie.At-match-keys2 → tie.After-width
-width₁₄ c = width₉ (steps₁₀ (check-passage₁₁ (predecessors2₁₄ c)))
+width₁₄ c = width₉ (check-passage-arg3₁₀ (check-passage₁₁ (predecessors2₁₄ c)))
 
 abbrev start₁₄ : tie.At-match-keys2 → tie.Start
-start₁₄ c = start₉ (steps₁₀ (check-passage₁₁ (predecessors2₁₄ c)))
+start₁₄ c = start₉ (check-passage-arg3₁₀ (check-passage₁₁ (predecessors2₁₄ c)))
 
 width-requires : tie.Need-width-requires
 width-requires c κs =
@@ -273,36 +267,30 @@ mark-baseline-requires : tie.Need-mark-baseline-requires
 mark-baseline-requires c κs =
     asks-marking _ _ _ (start₆ (c .before .before .before) .pre)
 
-original-steps-requires : tie.Need-original-steps-requires
-original-steps-requires c κs = search needs
-
 slice-reshare-prefix-check-passage : tie.Need-slice-reshare-prefix-check-passage
 slice-reshare-prefix-check-passage c =
-    let mark-baseline′ = c .before .before .before .before .mark-baseline in
-    let height′ = height₈ c .height in
-    let width′ = width₈ c .width in
-    base-room _ _ _ (start₈ c .pre) _ _ (width′ .ensures .0) (height′ .ensures .0) _ (mark-baseline′ .ensures .0)
+    let mark-baseline′ = c .before .before .before .mark-baseline in
+    let height′ = height₈ (c .before) .height in
+    let width′ = width₈ (c .before) .width in
+    base-room _ _ _ (start₈ (c .before) .pre) _ _ (width′ .ensures .0) (height′ .ensures .0) _ (mark-baseline′ .ensures .0)
 
 slice-aggregate-check-passage : tie.Need-slice-aggregate-check-passage
 slice-aggregate-check-passage c =
-    let mark-baseline′ = mark-baseline₈ (c .before) .mark-baseline in
-    let height′ = height₈ (c .before) .height in
-    let width′ = width₈ (c .before) .width in
-    sym (part-length _ _ _ (start₈ (c .before) .pre) _ _ (width′ .ensures .0) (height′ .ensures .0) _ (mark-baseline′ .ensures .0))
-
-slice-aggregate-check-passage-2 : tie.Need-slice-aggregate-check-passage-2
-slice-aggregate-check-passage-2 c = search needs
+    let at-baseline = c .before .before in
+    let mark-baseline′ = c .before .before .before .before .mark-baseline in
+    let height′ = height₈ at-baseline .height in
+    let width′ = width₈ at-baseline .width in
+    sym (part-length _ _ _ (start₈ at-baseline .pre) _ _ (width′ .ensures .0) (height′ .ensures .0) _ (mark-baseline′ .ensures .0))
 
 check-passage-requires : tie.Need-check-passage-requires
 check-passage-requires c κs =
-    let at-steps = c .before .before .before in
-    let mark-baseline′ = mark-baseline₉ at-steps .mark-baseline in
-    let clear-u323′ = clear-u323₉ at-steps .clear-u323 in
-    let clear-u322′ = clear-u322₉ at-steps .clear-u322 in
-    let clear-u32′ = clear-u32₉ at-steps .clear-u32 in
-    let height′ = height₉ at-steps .height in
-    let width′ = width₉ at-steps .width in
-    asks-passage _ _ _ (start₉ at-steps .pre) _ _ (width′ .ensures .0) (height′ .ensures .0) _ (mark-baseline′ .ensures .0) _ _ _
+    let mark-baseline′ = mark-baseline₉ (c .before) .mark-baseline in
+    let clear-u323′ = clear-u323₉ (c .before) .clear-u323 in
+    let clear-u322′ = clear-u322₉ (c .before) .clear-u322 in
+    let clear-u32′ = clear-u32₉ (c .before) .clear-u32 in
+    let height′ = height₉ (c .before) .height in
+    let width′ = width₉ (c .before) .width in
+    asks-passage _ _ _ (start₉ (c .before) .pre) _ _ (width′ .ensures .0) (height′ .ensures .0) _ (mark-baseline′ .ensures .0) _ _ _
     (clear-u32′ .ensures) (clear-u322′ .ensures) (clear-u323′ .ensures)
 
 enum-known-answer : tie.Need-enum-known-answer
@@ -357,7 +345,6 @@ returns c =
     let at-clear-bytes2 = c .before .before in
     let answer′ = answer₁₃ at-clear-bytes2 .answer in
     let check-passage′ = check-passage₁₃ at-clear-bytes2 .check-passage in
-    let original-steps′ = original-steps₁₃ at-clear-bytes2 .original-steps in
     let mark-baseline′ = mark-baseline₁₃ at-clear-bytes2 .mark-baseline in
     let clear-u323′ = clear-u323₁₃ at-clear-bytes2 .clear-u323 in
     let clear-u322′ = clear-u322₁₃ at-clear-bytes2 .clear-u322 in
@@ -366,7 +353,7 @@ returns c =
     let height′ = height₁₃ at-clear-bytes2 .height in
     let width′ = width₁₃ at-clear-bytes2 .width in
     leaves-zeros _ _ _ (start₁₃ at-clear-bytes2 .pre) _ _ (width′ .ensures .0) (height′ .ensures .0) _ (mark-baseline′ .ensures .0)
-    _ (original-steps′ .ensures) (check-passage′ .result) (check-passage′ .ensures .0) _ _ _ _ _
+    _ (check-passage′ .result) (check-passage′ .ensures .0) _ _ _ _ _
     (record {
       counts = mark-baseline′ .ensures .1;
       map = clear-bytes′ .ensures;
@@ -415,7 +402,6 @@ same-length-12 c =
 returns-2 : tie.Need-returns-2
 returns-2 c =
     let check-passage′ = check-passage₁₄ (c .before) .check-passage in
-    let original-steps′ = original-steps₁₄ (c .before) .original-steps in
     let mark-baseline′ = mark-baseline₁₄ (c .before) .mark-baseline in
     let clear-u323′ = clear-u323₁₄ (c .before) .clear-u323 in
     let clear-u322′ = clear-u322₁₄ (c .before) .clear-u322 in
@@ -424,7 +410,7 @@ returns-2 c =
     let height′ = height₁₄ (c .before) .height in
     let width′ = width₁₄ (c .before) .width in
     leaves-marks _ _ _ (start₁₄ (c .before) .pre) _ _ (width′ .ensures .0) (height′ .ensures .0) _ (mark-baseline′ .ensures .0)
-    _ (original-steps′ .ensures) (check-passage′ .result) (check-passage′ .ensures .0) _ _ _ _ _
+    _ (check-passage′ .result) (check-passage′ .ensures .0) _ _ _ _ _
     (record {
       counts = mark-baseline′ .ensures .1;
       map = clear-bytes′ .ensures;
@@ -446,10 +432,8 @@ prepare-checked-spec =
     clear-u32-requires-2
     clear-u32-requires-3
     mark-baseline-requires
-    original-steps-requires
     slice-reshare-prefix-check-passage
     slice-aggregate-check-passage
-    slice-aggregate-check-passage-2
     check-passage-requires
     enum-known-answer
     clear-bytes-requires-2

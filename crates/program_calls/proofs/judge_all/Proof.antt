@@ -5,10 +5,10 @@ use Rattle.program_calls.proofs.judge_all.Statement.{statement}
 use Rattle.program_calls.proofs.judge_all.Tie as tie
 
 abbrev Inv-loop : tie.InvT-loop
-Inv-loop rows n head groups numbers edges block allow counts₀ map₀ queue₀ predecessors₀ route₀ k₀ counts map queue predecessors route k = Unit {0}
+Inv-loop rows n head groups numbers edges block allow steps counts₀ map₀ queue₀ predecessors₀ route₀ k₀ counts map queue predecessors route k = Unit {0}
 
 abbrev μ-loop : tie.MeasureT-loop
-μ-loop rows n head groups numbers edges block allow counts₀ map₀ queue₀ predecessors₀ route₀ k₀ counts map queue predecessors route k = n - k
+μ-loop rows n head groups numbers edges block allow steps counts₀ map₀ queue₀ predecessors₀ route₀ k₀ counts map queue predecessors route k = n - k
 
 loop-holds : tie.Need-loop-holds Inv-loop μ-loop
 loop-holds c = search needs

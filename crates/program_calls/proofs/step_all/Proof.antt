@@ -6,11 +6,11 @@ use Rattle.program_calls.proofs.step_all.Statement.{statement}
 use Rattle.program_calls.proofs.step_all.Tie as tie
 
 abbrev Inv-loop : tie.InvT-loop
-Inv-loop portions head groups numbers edges block allow counts₀ map₀ queue₀ predecessors₀ route₀ lists₀ visited₀ layouts₀ points₀ rec₀ k₀
+Inv-loop portions head groups numbers edges block allow steps counts₀ map₀ queue₀ predecessors₀ route₀ lists₀ visited₀ layouts₀ points₀ rec₀ k₀
     counts map queue predecessors route lists visited layouts points rec k = Unit {0}
 
 abbrev μ-loop : tie.MeasureT-loop
-μ-loop portions head groups numbers edges block allow counts₀ map₀ queue₀ predecessors₀ route₀ lists₀ visited₀ layouts₀ points₀ rec₀ k₀
+μ-loop portions head groups numbers edges block allow steps counts₀ map₀ queue₀ predecessors₀ route₀ lists₀ visited₀ layouts₀ points₀ rec₀ k₀
     counts map queue predecessors route lists visited layouts points rec k = length portions - k
 
 loop-holds : tie.Need-loop-holds Inv-loop μ-loop

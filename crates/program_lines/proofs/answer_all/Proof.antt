@@ -7,11 +7,11 @@ use Rattle.program_lines.proofs.answer_all.Statement.{statement}
 use Rattle.program_lines.proofs.answer_all.Tie as tie
 
 abbrev Inv-loop : tie.InvT-loop
-Inv-loop text unsigned₀ signed₀ bytes₀ shorts₀ block₀ allow₀ counts₀ map₀ queue₀ predecessors₀ route₀ lists₀ visited₀ layouts₀ points₀ at₀
+Inv-loop text steps unsigned₀ signed₀ bytes₀ shorts₀ block₀ allow₀ counts₀ map₀ queue₀ predecessors₀ route₀ lists₀ visited₀ layouts₀ points₀ at₀
     unsigned signed bytes shorts block allow counts map queue predecessors route lists visited layouts points at = Unit {0}
 
 abbrev μ-loop : tie.MeasureT-loop
-μ-loop text unsigned₀ signed₀ bytes₀ shorts₀ block₀ allow₀ counts₀ map₀ queue₀ predecessors₀ route₀ lists₀ visited₀ layouts₀ points₀ at₀
+μ-loop text steps unsigned₀ signed₀ bytes₀ shorts₀ block₀ allow₀ counts₀ map₀ queue₀ predecessors₀ route₀ lists₀ visited₀ layouts₀ points₀ at₀
     unsigned signed bytes shorts block allow counts map queue predecessors route lists visited layouts points at = length text - at
 
 loop-holds : tie.Need-loop-holds Inv-loop μ-loop

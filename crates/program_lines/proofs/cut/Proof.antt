@@ -82,18 +82,6 @@ part-search-for-start-5 c = search needs
 part-search-for-end-5 : tie.Need-part-search-for-end-5
 part-search-for-end-5 c = search needs
 
-mul-search-for-5 : tie.Need-mul-search-for-5
-mul-search-for-5 c = search needs
-
-sub-search-for-6 : tie.Need-sub-search-for-6
-sub-search-for-6 c = search needs
-
-part-search-for-start-6 : tie.Need-part-search-for-start-6
-part-search-for-start-6 c = search needs
-
-part-search-for-end-6 : tie.Need-part-search-for-end-6
-part-search-for-end-6 c = search needs
-
 -- the places of the walk, each seen from a later one
 abbrev ends-of₁ : tie.Else3 → tie.After-ends-of
 ends-of₁ c = c .before .before .before
@@ -112,6 +100,18 @@ if4₃ c = if4₂ (if5₃ c)
 
 abbrev ends-of₃ : tie.After-search-for-arg4 → tie.After-ends-of
 ends-of₃ c = ends-of₁ (if3₂ (if5₃ c))
+
+mul-search-for-5 : tie.Need-mul-search-for-5
+mul-search-for-5 c = omega (arith, ends-of₃ (c .before) .ends-of .ensures)
+
+sub-search-for-6 : tie.Need-sub-search-for-6
+sub-search-for-6 c = search needs
+
+part-search-for-start-6 : tie.Need-part-search-for-start-6
+part-search-for-start-6 c = search needs
+
+part-search-for-end-6 : tie.Need-part-search-for-end-6
+part-search-for-end-6 c = search needs
 
 mul-search-for-6 : tie.Need-mul-search-for-6
 mul-search-for-6 c = omega (arith, ends-of₃ (c .before .before) .ends-of .ensures)

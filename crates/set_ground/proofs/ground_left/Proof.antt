@@ -1,11 +1,13 @@
 -- `set_ground::ground_left` meets its contract: the centres reached over the set's map are counted, and the map is wiped.
+use borrow.Author.Needs.{needs}
 use mathlib.Core.Path.{_≡_, ap, _∙_}
+use mathlib.Core.List.{List}
 use Prim.Native.Nat.{_*_}
 use native.Mathlib.Omega.{arith}
 use Rattle.base_laws.proofs.Stores.{all-length, all-front, wiped-whole}
-use Rattle.ground_rects.specs.Windows.{width, height, centres}
+use Rattle.ground_rects.specs.Windows.{width, height, centres, centreAt}
 use Rattle.ground_rects.proofs.Windows.{framed}
-use Rattle.rule_routes.specs.Edges.{stepsOf, windowEdges}
+use Rattle.rule_routes.specs.Edges.{Step, stepBy, eightSteps, stepsOf, originalSteps, windowEdges}
 use Rattle.rule_routes.specs.Routes.{reachCount}
 use Rattle.rule_layouts.specs.Boards.{leavesOpen}
 use Rattle.set_blocked.specs.Blocked.{blockedMap, moverIn}
@@ -45,38 +47,47 @@ map₄ c = c .before .before .before .before
 abbrev start₄ : tie.After-from → tie.Start
 start₄ c = start₃ (map₄ c)
 
-abbrev centre-at₅ : tie.After-reach-count-arg3 → tie.After-centre-at
+abbrev original-steps₅ : tie.After-steps → tie.After-original-steps
+original-steps₅ c = c .before .before
+
+abbrev centre-at₅ : tie.After-steps → tie.After-centre-at
 centre-at₅ c = c .before .before .before
 
-abbrev from₅ : tie.After-reach-count-arg3 → tie.After-from
+abbrev from₅ : tie.After-steps → tie.After-from
 from₅ c = c .before .before .before .before
 
-abbrev reach-count₆ : tie.After-predecessors → tie.After-reach-count
-reach-count₆ c = c .before .before .before
+abbrev steps₆ : tie.After-reach-count-arg3 → tie.After-steps
+steps₆ c = c .before .before
 
-abbrev reach-count-arg3₆ : tie.After-predecessors → tie.After-reach-count-arg3
-reach-count-arg3₆ c = c .before .before .before .before
+abbrev reach-count₇ : tie.After-predecessors → tie.After-reach-count
+reach-count₇ c = c .before .before .before
 
-abbrev predecessors₇ : tie.After-map2 → tie.After-predecessors
-predecessors₇ c = c .before .before .before .before
+abbrev reach-count-arg3₇ : tie.After-predecessors → tie.After-reach-count-arg3
+reach-count-arg3₇ c = c .before .before .before .before
 
-abbrev reach-count₇ : tie.After-map2 → tie.After-reach-count
-reach-count₇ c = reach-count₆ (predecessors₇ c)
+abbrev predecessors₈ : tie.After-map2 → tie.After-predecessors
+predecessors₈ c = c .before .before .before .before
 
-abbrev centre-at₇ : tie.After-map2 → tie.After-centre-at
-centre-at₇ c = centre-at₅ (reach-count-arg3₆ (predecessors₇ c))
+abbrev reach-count₈ : tie.After-map2 → tie.After-reach-count
+reach-count₈ c = reach-count₇ (predecessors₈ c)
 
-abbrev height₇ : tie.After-map2 → tie.After-height
-height₇ c = height₄ (from₅ (reach-count-arg3₆ (predecessors₇ c)))
+abbrev original-steps₈ : tie.After-map2 → tie.After-original-steps
+original-steps₈ c = original-steps₅ (steps₆ (reach-count-arg3₇ (predecessors₈ c)))
 
-abbrev width₇ : tie.After-map2 → tie.After-width
-width₇ c = width₄ (from₅ (reach-count-arg3₆ (predecessors₇ c)))
+abbrev centre-at₈ : tie.After-map2 → tie.After-centre-at
+centre-at₈ c = centre-at₅ (steps₆ (reach-count-arg3₇ (predecessors₈ c)))
 
-abbrev blocked-for₇ : tie.After-map2 → tie.After-blocked-for
-blocked-for₇ c = blocked-for₃ (map₄ (from₅ (reach-count-arg3₆ (predecessors₇ c))))
+abbrev height₈ : tie.After-map2 → tie.After-height
+height₈ c = height₄ (from₅ (steps₆ (reach-count-arg3₇ (predecessors₈ c))))
 
-abbrev start₇ : tie.After-map2 → tie.Start
-start₇ c = start₄ (from₅ (reach-count-arg3₆ (predecessors₇ c)))
+abbrev width₈ : tie.After-map2 → tie.After-width
+width₈ c = width₄ (from₅ (steps₆ (reach-count-arg3₇ (predecessors₈ c))))
+
+abbrev blocked-for₈ : tie.After-map2 → tie.After-blocked-for
+blocked-for₈ c = blocked-for₃ (map₄ (from₅ (steps₆ (reach-count-arg3₇ (predecessors₈ c)))))
+
+abbrev start₈ : tie.After-map2 → tie.Start
+start₈ c = start₄ (from₅ (steps₆ (reach-count-arg3₇ (predecessors₈ c))))
 
 blocked-for-requires : tie.Need-blocked-for-requires
 blocked-for-requires c κs =
@@ -101,11 +112,18 @@ centre-at-requires c κs =
     let start = start₄ c in
     (start .pre .fits, start .pre .startIn)
 
+original-steps-requires : tie.Need-original-steps-requires
+original-steps-requires c κs = search needs
+
+slice-aggregate-reach-count : tie.Need-slice-aggregate-reach-count
+slice-aggregate-reach-count c = search needs
+
 reach-count-requires : tie.Need-reach-count-requires
 unfolding centres
 reach-count-requires c κs =
-    let at-from = c .before .before .before .before in
-    let at-height = at-from .before in
+    let at-original-steps = c .before .before .before .before in
+    let at-centre-at = at-original-steps .before in
+    let at-height = at-centre-at .before .before in
     let at-width = at-height .before in
     let at-blocked-for = at-width .before .before .before in
     let at-slice-known3 = at-blocked-for .before .before .before .before in
@@ -122,7 +140,7 @@ reach-count-requires c κs =
       record {
         queueClear = all-front 0 (centres w) (p .queueClear);
         predecessorsClear = all-front 0 (centres w) (p .predecessorsClear);
-        startBelow = c .before .before .before .centre-at .ensures .1;
+        startBelow = at-centre-at .centre-at .ensures .1;
       },
     )
 
@@ -130,29 +148,34 @@ clear-bytes-requires : tie.Need-clear-bytes-requires
 clear-bytes-requires c κs = omega arith
 
 same-length : tie.Need-same-length
-same-length c = c .before .before .clear-bytes .kept .0 ∙ blocked-for₇ (c .before) .blocked-for .kept .1 .1 .1 .1 .1 .1 .0
+same-length c = c .before .before .clear-bytes .kept .0 ∙ blocked-for₈ (c .before) .blocked-for .kept .1 .1 .1 .1 .1 .1 .0
 
 same-length-2 : tie.Need-same-length-2
-same-length-2 c = reach-count₇ (c .before) .reach-count .kept .1 .1 .1 .1 .1 .0
+same-length-2 c = reach-count₈ (c .before) .reach-count .kept .1 .1 .1 .1 .1 .0
 
 same-length-3 : tie.Need-same-length-3
-same-length-3 c = reach-count₇ (c .before) .reach-count .kept .1 .1 .1 .1 .1 .1 .0
+same-length-3 c = reach-count₈ (c .before) .reach-count .kept .1 .1 .1 .1 .1 .1 .0
 
 returns : tie.Need-returns
+unfolding stepBy eightSteps stepsOf originalSteps
 returns c =
-    let at-reach-count = reach-count₇ (c .before) in
-    let at-centre-at = centre-at₇ (c .before) in
-    let at-height = height₇ (c .before) in
-    let at-width = width₇ (c .before) in
-    let start = start₇ (c .before) in
-    let b = blocked-for₇ (c .before) .blocked-for in
+    let at-reach-count = reach-count₈ (c .before) in
+    let at-original-steps = original-steps₈ (c .before) in
+    let at-centre-at = centre-at₈ (c .before) in
+    let at-height = height₈ (c .before) in
+    let at-width = width₈ (c .before) in
+    let start = start₈ (c .before) in
+    let order : stepsOf (at-original-steps .original-steps .result) ≡ eightSteps = ap stepsOf (at-original-steps .original-steps .ensures) in
+    let b = blocked-for₈ (c .before) .blocked-for in
     let a = start .args in
     let w = a .query .window in
     let m = moverIn w (a .edges .now) (a .query .block) (a .block-base .now) in (
       at-reach-count .reach-count .ensures .0
-          ∙ reach-past w (stepsOf (a .steps .now)) (at-centre-at .centre-at .result) m (a .set .now) (b .last .1 .1 .1 .1 .1 .1 .0) (at-width .width .result) (at-height .height .result)
+          ∙ reach-past w (stepsOf (at-original-steps .original-steps .result)) (at-centre-at .centre-at .result) m (a .set .now)
+          (b .last .1 .1 .1 .1 .1 .1 .0) (at-width .width .result) (at-height .height .result)
           (at-width .width .ensures .0) (at-height .height .ensures .0) (b .ensures ∙ ap (blockedMap m (centres w)) (whole (a .set .now))) (at-centre-at .centre-at .ensures .1)
-          ∙ ap (reachCount (windowEdges (width w) (height w) (stepsOf (a .steps .now))) (centres w) (leavesOpen m (a .set .now))) (at-centre-at .centre-at .ensures .0),
+          ∙ ap (reachCount (windowEdges (width w) (height w) (stepsOf (at-original-steps .original-steps .result))) (centres w) (leavesOpen m (a .set .now))) (at-centre-at .centre-at .ensures .0)
+          ∙ ap (λ (s : List Step). reachCount (windowEdges (width w) (height w) s) (centres w) (leavesOpen m (a .set .now)) (centreAt w (a .query .start))) order,
       (
         c .before .before .clear-bytes .ensures
             ∙ wiped-whole 0 (centres w) (b .last .1 .1 .1 .1 .1 .1 .0) (b .kept .1 .1 .1 .1 .1 .1 .0 ∙ all-length 0 (centres w) (start .pre .mapClear)),
@@ -163,5 +186,5 @@ returns c =
 pub ground-left-spec : {M : Type 1} → statement M
 ground-left-spec =
     tie.close
-    (tie.spec blocked-for-requires width-requires height-requires centre-at-requires reach-count-requires clear-bytes-requires same-length same-length-2
-    same-length-3 returns)
+    (tie.spec blocked-for-requires width-requires height-requires centre-at-requires original-steps-requires slice-aggregate-reach-count reach-count-requires clear-bytes-requires
+    same-length same-length-2 same-length-3 returns)

@@ -79,6 +79,9 @@ enum-told₈ c = c .before
 abbrev predecessors2₈ : tie.At-match2-keys1 → tie.After-predecessors2
 predecessors2₈ c = c .before .before .before .before
 
+abbrev prepare₈ : tie.At-match2-keys1 → tie.After-prepare
+prepare₈ c = prepare₅ (predecessors2₈ c)
+
 abbrev allow₉ : tie.After-counts3 → tie.After-allow
 allow₉ c = c .before .before .before
 
@@ -86,10 +89,13 @@ abbrev match2₉ : tie.After-counts3 → tie.At-match2-keys1
 match2₉ c = c .before .before .before .before
 
 abbrev prepare₉ : tie.After-counts3 → tie.After-prepare
-prepare₉ c = prepare₅ (predecessors2₈ (match2₉ c))
+prepare₉ c = prepare₈ (match2₉ c)
 
 abbrev counts3₁₀ : tie.After-route3 → tie.After-counts3
 counts3₁₀ c = c .before .before .before .before
+
+abbrev prepare₁₀ : tie.After-route3 → tie.After-prepare
+prepare₁₀ c = prepare₉ (counts3₁₀ c)
 
 abbrev start₁₀ : tie.After-route3 → tie.Start
 start₁₀ c = start₃ (queue₄ (block-base2₅ (predecessors2₈ (match2₉ (counts3₁₀ c)))))
@@ -113,13 +119,16 @@ abbrev enum-told₁₂ : tie.After-out2 → tie.After-enum-told
 enum-told₁₂ c = enum-told₈ (match2₉ (counts3₁₀ (route3₁₁ (map4₁₂ c))))
 
 abbrev prepare₁₂ : tie.After-out2 → tie.After-prepare
-prepare₁₂ c = prepare₉ (counts3₁₀ (route3₁₁ (map4₁₂ c)))
+prepare₁₂ c = prepare₁₀ (route3₁₁ (map4₁₂ c))
 
 abbrev enum-told₁₃ : tie.At-match2-keys2 → tie.After-enum-told
 enum-told₁₃ c = c .before
 
 abbrev predecessors2₁₃ : tie.At-match2-keys2 → tie.After-predecessors2
 predecessors2₁₃ c = c .before .before .before .before
+
+abbrev prepare₁₃ : tie.At-match2-keys2 → tie.After-prepare
+prepare₁₃ c = prepare₅ (predecessors2₁₃ c)
 
 abbrev enum-told2₁₄ : tie.After-counts5 → tie.After-enum-told2
 enum-told2₁₄ c = c .before .before .before
@@ -128,10 +137,13 @@ abbrev match2₁₄ : tie.After-counts5 → tie.At-match2-keys2
 match2₁₄ c = c .before .before .before .before
 
 abbrev prepare₁₄ : tie.After-counts5 → tie.After-prepare
-prepare₁₄ c = prepare₅ (predecessors2₁₃ (match2₁₄ c))
+prepare₁₄ c = prepare₁₃ (match2₁₄ c)
 
 abbrev counts5₁₅ : tie.After-route5 → tie.After-counts5
 counts5₁₅ c = c .before .before .before .before
+
+abbrev prepare₁₅ : tie.After-route5 → tie.After-prepare
+prepare₁₅ c = prepare₁₄ (counts5₁₅ c)
 
 abbrev start₁₅ : tie.After-route5 → tie.Start
 start₁₅ c = start₃ (queue₄ (block-base2₅ (predecessors2₁₃ (match2₁₄ (counts5₁₅ c)))))
@@ -155,7 +167,7 @@ abbrev enum-told₁₇ : tie.After-out3 → tie.After-enum-told
 enum-told₁₇ c = enum-told₁₃ (match2₁₄ (counts5₁₅ (route5₁₆ (map6₁₇ c))))
 
 abbrev prepare₁₇ : tie.After-out3 → tie.After-prepare
-prepare₁₇ c = prepare₁₄ (counts5₁₅ (route5₁₆ (map6₁₇ c)))
+prepare₁₇ c = prepare₁₅ (route5₁₆ (map6₁₇ c))
 
 write-refusal-requires : tie.Need-write-refusal-requires
 write-refusal-requires c κs = omega (arith, start₆ (c .before .before) .pre)
@@ -167,7 +179,7 @@ returns : tie.Need-returns
 unfolding noBytes noWork
 returns c =
     let at-prepare = prepare₇ (c .before) in
-    λ s h. drive-refused s _ _ _ _ _ _ _ _ _ h
+    λ s h. drive-refused _ s _ _ _ _ _ _ _ _ _ h
     (at-prepare .prepare .result) _ _ _ _ _
     (at-prepare .prepare .ensures) _
     (answer₇ (c .before) .answer .given .1)
@@ -181,34 +193,34 @@ enum-known-allow : tie.Need-enum-known-allow
 enum-known-allow c = c .match2 .keys1
 
 slice-aggregate-allowed : tie.Need-slice-aggregate-allowed
-slice-aggregate-allowed c = sym (prepare₅ (predecessors2₈ (c .before .before .before)) .prepare .kept .1 .1 .1 .1 .1 .1 .1 .1 .0)
+slice-aggregate-allowed c = sym (prepare₈ (c .before .before .before) .prepare .kept .1 .1 .1 .1 .1 .1 .1 .1 .1 .0)
 
 slice-aggregate-allowed-2 : tie.Need-slice-aggregate-allowed-2
-slice-aggregate-allowed-2 c = sym (prepare₉ c .prepare .kept .1 .1 .1 .1 .1 .1 .1 .1 .1 .0)
+slice-aggregate-allowed-2 c = sym (prepare₉ c .prepare .kept .1 .1 .1 .1 .1 .1 .1 .1 .1 .1 .0)
 
 slice-aggregate-allowed-3 : tie.Need-slice-aggregate-allowed-3
-slice-aggregate-allowed-3 c = sym (prepare₉ (c .before) .prepare .kept .1 .1 .1 .1 .1 .1 .1 .1 .1 .1 .0)
+slice-aggregate-allowed-3 c = sym (prepare₉ (c .before) .prepare .kept .1 .1 .1 .1 .1 .1 .1 .1 .1 .1 .1 .0)
 
 slice-aggregate-allowed-4 : tie.Need-slice-aggregate-allowed-4
-slice-aggregate-allowed-4 c = sym (prepare₉ (c .before .before) .prepare .kept .1 .1 .1 .1 .1 .1 .1 .1 .1 .1 .1 .0)
+slice-aggregate-allowed-4 c = sym (prepare₉ (c .before .before) .prepare .kept .1 .1 .1 .1 .1 .1 .1 .1 .1 .1 .1 .1 .0)
 
 slice-aggregate-allowed-5 : tie.Need-slice-aggregate-allowed-5
-slice-aggregate-allowed-5 c = sym (prepare₉ (c .before .before .before) .prepare .kept .1 .1 .1 .1 .1 .1 .1 .1 .1 .1 .1 .1 .0)
+slice-aggregate-allowed-5 c = sym (prepare₉ (c .before .before .before) .prepare .kept .1 .1 .1 .1 .1 .1 .1 .1 .1 .1 .1 .1 .1 .0)
 
 slice-aggregate-allowed-6 : tie.Need-slice-aggregate-allowed-6
-slice-aggregate-allowed-6 c = sym (prepare₉ (counts3₁₀ c) .prepare .kept .1 .1 .1 .1 .1 .1 .1 .1 .1 .1 .1 .1 .1 .0)
+slice-aggregate-allowed-6 c = sym (prepare₁₀ c .prepare .kept .1 .1 .1 .1 .1 .1 .1 .1 .1 .1 .1 .1 .1 .1 .0)
 
 allowed-requires : tie.Need-allowed-requires
 allowed-requires c κs = start₁₀ (c .before) .pre
 
 same-length-2 : tie.Need-same-length-2
-same-length-2 c = allowed₁₂ (c .before) .allowed .kept .1 .1 .1 .1 .1 .1 .1 .1 .1 .1 .1 .1 .1 .1 .1 .1 .0
+same-length-2 c = allowed₁₂ (c .before) .allowed .kept .1 .1 .1 .1 .1 .1 .1 .1 .1 .1 .1 .1 .1 .1 .1 .1 .1 .0
 
 returns-2 : tie.Need-returns-2
 unfolding noBytes noWork
 returns-2 c =
     let at-prepare = prepare₁₂ (c .before) in
-    λ s h. drive-allowed s _ _ _ _ _ _ _ _ _ h
+    λ s h. drive-allowed _ s _ _ _ _ _ _ _ _ _ h
     (at-prepare .prepare .result)
     _ _ _ _ _ (at-prepare .prepare .ensures)
     (enum-told₁₂ (c .before) .enum-told .given .1)
@@ -219,37 +231,37 @@ enum-told-2 : tie.Need-enum-told-2
 enum-told-2 c = c .match2 .keys2
 
 slice-aggregate-search : tie.Need-slice-aggregate-search
-slice-aggregate-search c = sym (prepare₅ (predecessors2₁₃ (c .before .before)) .prepare .kept .1 .1 .1 .1 .1 .1 .1 .1 .0)
+slice-aggregate-search c = sym (prepare₁₃ (c .before .before) .prepare .kept .1 .1 .1 .1 .1 .1 .1 .1 .1 .0)
 
 slice-aggregate-search-2 : tie.Need-slice-aggregate-search-2
 slice-aggregate-search-2 c = refl
 
 slice-aggregate-search-3 : tie.Need-slice-aggregate-search-3
-slice-aggregate-search-3 c = sym (prepare₁₄ c .prepare .kept .1 .1 .1 .1 .1 .1 .1 .1 .1 .0)
+slice-aggregate-search-3 c = sym (prepare₁₄ c .prepare .kept .1 .1 .1 .1 .1 .1 .1 .1 .1 .1 .0)
 
 slice-aggregate-search-4 : tie.Need-slice-aggregate-search-4
-slice-aggregate-search-4 c = sym (prepare₁₄ (c .before) .prepare .kept .1 .1 .1 .1 .1 .1 .1 .1 .1 .1 .0)
+slice-aggregate-search-4 c = sym (prepare₁₄ (c .before) .prepare .kept .1 .1 .1 .1 .1 .1 .1 .1 .1 .1 .1 .0)
 
 slice-aggregate-search-5 : tie.Need-slice-aggregate-search-5
-slice-aggregate-search-5 c = sym (prepare₁₄ (c .before .before) .prepare .kept .1 .1 .1 .1 .1 .1 .1 .1 .1 .1 .1 .0)
+slice-aggregate-search-5 c = sym (prepare₁₄ (c .before .before) .prepare .kept .1 .1 .1 .1 .1 .1 .1 .1 .1 .1 .1 .1 .0)
 
 slice-aggregate-search-6 : tie.Need-slice-aggregate-search-6
-slice-aggregate-search-6 c = sym (prepare₁₄ (c .before .before .before) .prepare .kept .1 .1 .1 .1 .1 .1 .1 .1 .1 .1 .1 .1 .0)
+slice-aggregate-search-6 c = sym (prepare₁₄ (c .before .before .before) .prepare .kept .1 .1 .1 .1 .1 .1 .1 .1 .1 .1 .1 .1 .1 .0)
 
 slice-aggregate-search-7 : tie.Need-slice-aggregate-search-7
-slice-aggregate-search-7 c = sym (prepare₁₄ (counts5₁₅ c) .prepare .kept .1 .1 .1 .1 .1 .1 .1 .1 .1 .1 .1 .1 .1 .0)
+slice-aggregate-search-7 c = sym (prepare₁₅ c .prepare .kept .1 .1 .1 .1 .1 .1 .1 .1 .1 .1 .1 .1 .1 .1 .0)
 
 search-requires : tie.Need-search-requires
 search-requires c κs = start₁₅ (c .before) .pre
 
 same-length-3 : tie.Need-same-length-3
-same-length-3 c = search₁₇ (c .before) .search .kept .1 .1 .1 .1 .1 .1 .1 .1 .1 .1 .1 .1 .0
+same-length-3 c = search₁₇ (c .before) .search .kept .1 .1 .1 .1 .1 .1 .1 .1 .1 .1 .1 .1 .1 .0
 
 returns-3 : tie.Need-returns-3
 unfolding noBytes noWork
 returns-3 c =
     let at-prepare = prepare₁₇ (c .before) in
-    λ s h. drive-nobody s _ _ _ _ _ _ _ _ _ h
+    λ s h. drive-nobody _ s _ _ _ _ _ _ _ _ _ h
     (at-prepare .prepare .result)
     _ _ _ _ _ (at-prepare .prepare .ensures)
     (enum-told₁₇ (c .before) .enum-told .given .1)

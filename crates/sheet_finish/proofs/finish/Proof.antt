@@ -1,6 +1,6 @@
 -- `finish`: the step, then its refusal or its result.
 use native.Mathlib.Omega.{arith}
-use mathlib.Core.Path.{refl, _∙_}
+use mathlib.Core.Path.{refl}
 use Rattle.rule_layouts.specs.Inputs.{Inputs}
 use Rattle.rule_layouts.specs.Flat.{inputsOf}
 use Rattle.rule_calls.specs.Areas.{Work, Store, workIn, storeIn}
@@ -127,31 +127,31 @@ write-refusal-requires : tie.Need-write-refusal-requires
 write-refusal-requires c κs = omega (arith, start₁₁ (c .before .before) .pre .room)
 
 same-length : tie.Need-same-length
-same-length c = step₁₂ (c .before) .step .kept .1 .1 .1 .1 .1 .1 .1 .1 .1 .0
+same-length c = step₁₂ (c .before) .step .kept .1 .1 .1 .1 .1 .1 .1 .1 .1 .1 .0
 
 same-length-2 : tie.Need-same-length-2
-same-length-2 c = step₁₂ (c .before) .step .kept .1 .1 .1 .1 .1 .1 .1 .1 .1 .1 .0
+same-length-2 c = step₁₂ (c .before) .step .kept .1 .1 .1 .1 .1 .1 .1 .1 .1 .1 .1 .0
 
 same-length-3 : tie.Need-same-length-3
-same-length-3 c = step₁₂ (c .before) .step .kept .1 .1 .1 .1 .1 .1 .1 .1 .1 .1 .1 .0
+same-length-3 c = step₁₂ (c .before) .step .kept .1 .1 .1 .1 .1 .1 .1 .1 .1 .1 .1 .1 .0
 
 same-length-4 : tie.Need-same-length-4
-same-length-4 c = step₁₂ (c .before) .step .kept .1 .1 .1 .1 .1 .1 .1 .1 .1 .1 .1 .1 .0
+same-length-4 c = step₁₂ (c .before) .step .kept .1 .1 .1 .1 .1 .1 .1 .1 .1 .1 .1 .1 .1 .0
 
 same-length-5 : tie.Need-same-length-5
-same-length-5 c = step₁₂ (c .before) .step .kept .1 .1 .1 .1 .1 .1 .1 .1 .1 .1 .1 .1 .1 .0
+same-length-5 c = step₁₂ (c .before) .step .kept .1 .1 .1 .1 .1 .1 .1 .1 .1 .1 .1 .1 .1 .1 .0
 
 same-length-6 : tie.Need-same-length-6
-same-length-6 c = step₁₂ (c .before) .step .kept .1 .1 .1 .1 .1 .1 .1 .1 .1 .1 .1 .1 .1 .1 .0
+same-length-6 c = step₁₂ (c .before) .step .kept .1 .1 .1 .1 .1 .1 .1 .1 .1 .1 .1 .1 .1 .1 .1 .0
 
 same-length-7 : tie.Need-same-length-7
-same-length-7 c = step₁₂ (c .before) .step .kept .1 .1 .1 .1 .1 .1 .1 .1 .1 .1 .1 .1 .1 .1 .1 .0
+same-length-7 c = step₁₂ (c .before) .step .kept .1 .1 .1 .1 .1 .1 .1 .1 .1 .1 .1 .1 .1 .1 .1 .1 .0
 
 same-length-8 : tie.Need-same-length-8
-same-length-8 c = step₁₂ (c .before) .step .kept .1 .1 .1 .1 .1 .1 .1 .1 .1 .1 .1 .1 .1 .1 .1 .1 .0
+same-length-8 c = step₁₂ (c .before) .step .kept .1 .1 .1 .1 .1 .1 .1 .1 .1 .1 .1 .1 .1 .1 .1 .1 .1 .0
 
 same-length-9 : tie.Need-same-length-9
-same-length-9 c = step₁₂ (c .before) .step .kept .1 .1 .1 .1 .1 .1 .1 .1 .1 .1 .1 .1 .1 .1 .1 .1 .1 .0
+same-length-9 c = step₁₂ (c .before) .step .kept .1 .1 .1 .1 .1 .1 .1 .1 .1 .1 .1 .1 .1 .1 .1 .1 .1 .1 .0
 
 same-length-10 : tie.Need-same-length-10
 same-length-10 c = c .before .before .write-refusal .kept .0
@@ -160,7 +160,7 @@ returns : tie.Need-returns
 returns c =
     let at-step = step₁₂ (c .before) in
     let start = start₁₂ (c .before) in
-    finish-refused (inputs start) (start .args .limits) (start .args .rec) (work start) (store start) (at-step .step .result .answer) _ _ _ (at-step .step .ensures) _ _ _ _
+    finish-refused (start .args .steps .now) (inputs start) (start .args .limits) (start .args .rec) (work start) (store start) (at-step .step .result .answer) _ _ _ (at-step .step .ensures) _ _ _ _
     (answer₁₂ (c .before) .answer .given .1) (start .pre .room) (c .before .before .write-refusal .ensures)
 
 enum-told : tie.Need-enum-told
@@ -171,41 +171,42 @@ write-result-requires c κs =
     let at-end = c .before .before .before in
     let at-step = step₁₃ at-end in
     let start = start₁₃ at-end in
-    let long = at-step .step .kept .1 .1 .1 .1 .1 .1 .1 .1 .1 .1 .1 .1 .1 .1 .1 .1 .1 .0 in
+    let long = at-step .step .kept .1 .1 .1 .1 .1 .1 .1 .1 .1 .1 .1 .1 .1 .1 .1 .1 .1 .1 .0 in
     let p = start .pre in
-    let h : Steppable (start .args .rec) (at-step .step .last .1 .1 .1 .1 .1 .1 .1 .1 .1 .1 .1 .1 .1 .1 .1 .1 .1 .0) (start .args .out .now) =
+    let h : Steppable (start .args .rec) (at-step .step .last .1 .1 .1 .1 .1 .1 .1 .1 .1 .1 .1 .1 .1 .1 .1 .1 .1 .1 .0) (start .args .out .now) =
     record { routes = p .routes; lengths = p .lengths; nexts = p .nexts; few = omega (arith, p .few, long); room = p .room } in (
-      finish-writable (inputs start) (start .args .limits) (start .args .rec) (work start) (store start) (at-step .step .result .answer) _ _ _ (at-step .step .ensures) (start .args .out .now)
+      finish-writable (start .args .steps .now) (inputs start) (start .args .limits) (start .args .rec) (work start) (store start)
+          (at-step .step .result .answer) _ _ _ (at-step .step .ensures) (start .args .out .now)
           (start .args .out .now) 0 (c .before .before .before .before .enum-told .given .1) h,
       p .room,
     )
 
 same-length-11 : tie.Need-same-length-11
-same-length-11 c = step₁₄ (c .before .before) .step .kept .1 .1 .1 .1 .1 .1 .1 .1 .1 .0
+same-length-11 c = step₁₄ (c .before .before) .step .kept .1 .1 .1 .1 .1 .1 .1 .1 .1 .1 .0
 
 same-length-12 : tie.Need-same-length-12
-same-length-12 c = step₁₄ (c .before .before) .step .kept .1 .1 .1 .1 .1 .1 .1 .1 .1 .1 .0
+same-length-12 c = step₁₄ (c .before .before) .step .kept .1 .1 .1 .1 .1 .1 .1 .1 .1 .1 .1 .0
 
 same-length-13 : tie.Need-same-length-13
-same-length-13 c = step₁₄ (c .before .before) .step .kept .1 .1 .1 .1 .1 .1 .1 .1 .1 .1 .1 .0
+same-length-13 c = step₁₄ (c .before .before) .step .kept .1 .1 .1 .1 .1 .1 .1 .1 .1 .1 .1 .1 .0
 
 same-length-14 : tie.Need-same-length-14
-same-length-14 c = step₁₄ (c .before .before) .step .kept .1 .1 .1 .1 .1 .1 .1 .1 .1 .1 .1 .1 .0
+same-length-14 c = step₁₄ (c .before .before) .step .kept .1 .1 .1 .1 .1 .1 .1 .1 .1 .1 .1 .1 .1 .0
 
 same-length-15 : tie.Need-same-length-15
-same-length-15 c = step₁₄ (c .before .before) .step .kept .1 .1 .1 .1 .1 .1 .1 .1 .1 .1 .1 .1 .1 .0
+same-length-15 c = step₁₄ (c .before .before) .step .kept .1 .1 .1 .1 .1 .1 .1 .1 .1 .1 .1 .1 .1 .1 .0
 
 same-length-16 : tie.Need-same-length-16
-same-length-16 c = step₁₄ (c .before .before) .step .kept .1 .1 .1 .1 .1 .1 .1 .1 .1 .1 .1 .1 .1 .1 .0
+same-length-16 c = step₁₄ (c .before .before) .step .kept .1 .1 .1 .1 .1 .1 .1 .1 .1 .1 .1 .1 .1 .1 .1 .0
 
 same-length-17 : tie.Need-same-length-17
-same-length-17 c = step₁₄ (c .before .before) .step .kept .1 .1 .1 .1 .1 .1 .1 .1 .1 .1 .1 .1 .1 .1 .1 .0
+same-length-17 c = step₁₄ (c .before .before) .step .kept .1 .1 .1 .1 .1 .1 .1 .1 .1 .1 .1 .1 .1 .1 .1 .1 .0
 
 same-length-18 : tie.Need-same-length-18
-same-length-18 c = step₁₄ (c .before .before) .step .kept .1 .1 .1 .1 .1 .1 .1 .1 .1 .1 .1 .1 .1 .1 .1 .1 .0
+same-length-18 c = step₁₄ (c .before .before) .step .kept .1 .1 .1 .1 .1 .1 .1 .1 .1 .1 .1 .1 .1 .1 .1 .1 .1 .0
 
 same-length-19 : tie.Need-same-length-19
-same-length-19 c = step₁₄ (c .before .before) .step .kept .1 .1 .1 .1 .1 .1 .1 .1 .1 .1 .1 .1 .1 .1 .1 .1 .1 .0
+same-length-19 c = step₁₄ (c .before .before) .step .kept .1 .1 .1 .1 .1 .1 .1 .1 .1 .1 .1 .1 .1 .1 .1 .1 .1 .1 .0
 
 same-length-20 : tie.Need-same-length-20
 same-length-20 c = c .before .before .write-result .kept .0
@@ -215,16 +216,16 @@ returns-2 c =
     let at-write-result = c .before .before in
     let at-step = step₁₄ at-write-result in
     let start = start₁₄ at-write-result in
-    let long = at-step .step .kept .1 .1 .1 .1 .1 .1 .1 .1 .1 .1 .1 .1 .1 .1 .1 .1 .1 .0 in
+    let long = at-step .step .kept .1 .1 .1 .1 .1 .1 .1 .1 .1 .1 .1 .1 .1 .1 .1 .1 .1 .1 .0 in
     let p = start .pre in
-    let h : Steppable (start .args .rec) (at-step .step .last .1 .1 .1 .1 .1 .1 .1 .1 .1 .1 .1 .1 .1 .1 .1 .1 .1 .0) (start .args .out .now) =
+    let h : Steppable (start .args .rec) (at-step .step .last .1 .1 .1 .1 .1 .1 .1 .1 .1 .1 .1 .1 .1 .1 .1 .1 .1 .1 .0) (start .args .out .now) =
     record { routes = p .routes; lengths = p .lengths; nexts = p .nexts; few = omega (arith, p .few, long); room = p .room } in
     let x = slice-known16₁₄ at-write-result .slice-known16 .given in
     let y = slice-known17₁₄ at-write-result .slice-known17 .given in
-    let v : Words (at-step .step .last .1 .1 .1 .1 .1 .1 .1 .1 .1 .1 .1 .1 .1 .1 .1 .1 .0)
-    (at-step .step .last .1 .1 .1 .1 .1 .1 .1 .1 .1 .1 .1 .1 .1 .1 .1 .1 .1 .0) =
+    let v : Words (at-step .step .last .1 .1 .1 .1 .1 .1 .1 .1 .1 .1 .1 .1 .1 .1 .1 .1 .1 .0)
+    (at-step .step .last .1 .1 .1 .1 .1 .1 .1 .1 .1 .1 .1 .1 .1 .1 .1 .1 .1 .1 .0) =
     record { halves = λ i. omega (arith, x i); words = λ i. omega (arith, y i) } in
-    finish-written (inputs start) (start .args .limits) (start .args .rec) (work start) (store start) (at-step .step .result .answer) _ _ _ (at-step .step .ensures) _ _ _
+    finish-written (start .args .steps .now) (inputs start) (start .args .limits) (start .args .rec) (work start) (store start) (at-step .step .result .answer) _ _ _ (at-step .step .ensures) _ _ _
     (enum-told₁₄ at-write-result .enum-told .given .1) h v (at-write-result .write-result .ensures _ refl refl)
 
 pub finish-spec : {M : Type 1} → statement M

@@ -97,6 +97,9 @@ enum-told₁₂ c = enum-told₁₁ (rec₁₂ c)
 abbrev begin₁₂ : tie.After-finish-arg4 → tie.After-begin
 begin₁₂ c = begin₆ (queue₇ (route₈ (layouts2₁₁ (rec₁₂ c))))
 
+abbrev start₁₂ : tie.After-finish-arg4 → tie.Start
+start₁₂ c = start₆ (queue₇ (route₈ (layouts2₁₁ (rec₁₂ c))))
+
 abbrev finish-arg4₁₃ : tie.After-layouts3 → tie.After-finish-arg4
 finish-arg4₁₃ c = c .before .before .before .before
 
@@ -107,7 +110,7 @@ abbrev begin₁₃ : tie.After-layouts3 → tie.After-begin
 begin₁₃ c = begin₁₂ (finish-arg4₁₃ c)
 
 abbrev start₁₃ : tie.After-layouts3 → tie.Start
-start₁₃ c = start₆ (queue₇ (route₈ (layouts2₁₁ (rec₁₂ (finish-arg4₁₃ c)))))
+start₁₃ c = start₁₂ (finish-arg4₁₃ c)
 
 abbrev finish₁₄ : tie.After-counts2 → tie.After-finish
 finish₁₄ c = c .before
@@ -130,11 +133,11 @@ finish₁₇ c = finish₁₄ (counts2₁₅ (queue2₁₆ (route2₁₇ c)))
 abbrev enum-told₁₇ : tie.After-layouts4 → tie.After-enum-told
 enum-told₁₇ c = enum-told₁₃ (layouts3₁₄ (counts2₁₅ (queue2₁₆ (route2₁₇ c))))
 
-abbrev start₁₇ : tie.After-layouts4 → tie.Start
-start₁₇ c = start₁₃ (layouts3₁₄ (counts2₁₅ (queue2₁₆ (route2₁₇ c))))
-
 abbrev begin₁₇ : tie.After-layouts4 → tie.After-begin
 begin₁₇ c = begin₁₃ (layouts3₁₄ (counts2₁₅ (queue2₁₆ (route2₁₇ c))))
+
+abbrev start₁₇ : tie.After-layouts4 → tie.Start
+start₁₇ c = start₁₃ (layouts3₁₄ (counts2₁₅ (queue2₁₆ (route2₁₇ c))))
 
 -- what begin is given. Written out, since the areas that are found for a `_` are dear
 abbrev inputs : tie.Start → Inputs
@@ -147,19 +150,19 @@ write-refusal-requires : tie.Need-write-refusal-requires
 write-refusal-requires c κs = omega (arith, start₉ (c .before .before) .pre)
 
 same-length : tie.Need-same-length
-same-length c = begin₁₀ (c .before) .begin .kept .1 .1 .1 .1 .1 .1 .1 .0
+same-length c = begin₁₀ (c .before) .begin .kept .1 .1 .1 .1 .1 .1 .1 .1 .0
 
 same-length-2 : tie.Need-same-length-2
-same-length-2 c = begin₁₀ (c .before) .begin .kept .1 .1 .1 .1 .1 .1 .1 .1 .0
+same-length-2 c = begin₁₀ (c .before) .begin .kept .1 .1 .1 .1 .1 .1 .1 .1 .1 .0
 
 same-length-3 : tie.Need-same-length-3
-same-length-3 c = begin₁₀ (c .before) .begin .kept .1 .1 .1 .1 .1 .1 .1 .1 .1 .0
+same-length-3 c = begin₁₀ (c .before) .begin .kept .1 .1 .1 .1 .1 .1 .1 .1 .1 .1 .0
 
 same-length-4 : tie.Need-same-length-4
-same-length-4 c = begin₁₀ (c .before) .begin .kept .1 .1 .1 .1 .1 .1 .1 .1 .1 .1 .0
+same-length-4 c = begin₁₀ (c .before) .begin .kept .1 .1 .1 .1 .1 .1 .1 .1 .1 .1 .1 .0
 
 same-length-5 : tie.Need-same-length-5
-same-length-5 c = begin₁₀ (c .before) .begin .kept .1 .1 .1 .1 .1 .1 .1 .1 .1 .1 .1 .0
+same-length-5 c = begin₁₀ (c .before) .begin .kept .1 .1 .1 .1 .1 .1 .1 .1 .1 .1 .1 .1 .0
 
 same-length-6 : tie.Need-same-length-6
 same-length-6 c = c .before .before .write-refusal .kept .0
@@ -169,23 +172,23 @@ unfolding noStore
 returns c =
     let at-begin = begin₁₀ (c .before) in
     let start = start₁₀ (c .before) in
-    search-refused (inputs start) (start .args .limits) (work start) noStore (at-begin .begin .result .answer) _ _ _ (at-begin .begin .ensures) _ _ _ _
+    search-refused (start .args .steps .now) (inputs start) (start .args .limits) (work start) noStore (at-begin .begin .result .answer) _ _ _ (at-begin .begin .ensures) _ _ _ _
     (answer₁₀ (c .before) .answer .given .1) (start .pre) (c .before .before .write-refusal .ensures)
 
 enum-told : tie.Need-enum-told
 enum-told c = c .match .keys2
 
 slice-aggregate-finish : tie.Need-slice-aggregate-finish
-slice-aggregate-finish c = sym (begin₁₂ (c .before .before) .begin .kept .1 .1 .1 .1 .1 .1 .1 .1 .1 .1 .1 .1 .0)
+slice-aggregate-finish c = sym (begin₁₂ (c .before .before) .begin .kept .1 .1 .1 .1 .1 .1 .1 .1 .1 .1 .1 .1 .1 .0)
 
 slice-aggregate-finish-2 : tie.Need-slice-aggregate-finish-2
-slice-aggregate-finish-2 c = sym (begin₁₂ (c .before .before .before) .begin .kept .1 .1 .1 .1 .1 .1 .1 .1 .1 .1 .1 .1 .1 .0)
+slice-aggregate-finish-2 c = sym (begin₁₂ (c .before .before .before) .begin .kept .1 .1 .1 .1 .1 .1 .1 .1 .1 .1 .1 .1 .1 .1 .0)
 
 slice-aggregate-finish-3 : tie.Need-slice-aggregate-finish-3
-slice-aggregate-finish-3 c = sym (begin₁₃ c .begin .kept .1 .1 .1 .1 .1 .1 .1 .1 .1 .1 .1 .1 .1 .1 .0)
+slice-aggregate-finish-3 c = sym (begin₁₃ c .begin .kept .1 .1 .1 .1 .1 .1 .1 .1 .1 .1 .1 .1 .1 .1 .1 .0)
 
 slice-aggregate-finish-4 : tie.Need-slice-aggregate-finish-4
-slice-aggregate-finish-4 c = sym (begin₁₃ (c .before) .begin .kept .1 .1 .1 .1 .1 .1 .1 .1 .1 .1 .1 .1 .1 .1 .1 .0)
+slice-aggregate-finish-4 c = sym (begin₁₃ (c .before) .begin .kept .1 .1 .1 .1 .1 .1 .1 .1 .1 .1 .1 .1 .1 .1 .1 .1 .0)
 
 finish-requires : tie.Need-finish-requires
 unfolding noStore
@@ -193,37 +196,37 @@ finish-requires c κs =
     let at-layouts3 = c .before .before in
     let at-begin = begin₁₃ at-layouts3 in
     let start = start₁₃ at-layouts3 in
-    search-steppable (inputs start) (start .args .limits) (work start) noStore (at-begin .begin .result .answer) _ _ _ (at-begin .begin .ensures)
+    search-steppable (start .args .steps .now) (inputs start) (start .args .limits) (work start) noStore (at-begin .begin .result .answer) _ _ _ (at-begin .begin .ensures)
     (enum-told₁₃ at-layouts3 .enum-told .given .1) _ _
-    (omega (arith, at-begin .begin .kept .1 .1 .1 .1 .1 .1 .1 .1 .1 .1 .1 .1 .1 .1 .1 .0)) (start .pre)
+    (omega (arith, at-begin .begin .kept .1 .1 .1 .1 .1 .1 .1 .1 .1 .1 .1 .1 .1 .1 .1 .1 .0)) (start .pre)
 
 same-length-7 : tie.Need-same-length-7
 same-length-7 c =
     let at-layouts4 = c .before .before .before in
-    finish₁₇ at-layouts4 .finish .kept .1 .1 .1 .1 .1 .1 .1 .1 .0 ∙ begin₁₇ at-layouts4 .begin .kept .1 .1 .1 .1 .1 .1 .1 .0
+    finish₁₇ at-layouts4 .finish .kept .1 .1 .1 .1 .1 .1 .1 .1 .1 .0 ∙ begin₁₇ at-layouts4 .begin .kept .1 .1 .1 .1 .1 .1 .1 .1 .0
 
 same-length-8 : tie.Need-same-length-8
 same-length-8 c =
     let at-layouts4 = c .before .before .before in
-    finish₁₇ at-layouts4 .finish .kept .1 .1 .1 .1 .1 .1 .1 .1 .1 .0 ∙ begin₁₇ at-layouts4 .begin .kept .1 .1 .1 .1 .1 .1 .1 .1 .0
+    finish₁₇ at-layouts4 .finish .kept .1 .1 .1 .1 .1 .1 .1 .1 .1 .1 .0 ∙ begin₁₇ at-layouts4 .begin .kept .1 .1 .1 .1 .1 .1 .1 .1 .1 .0
 
 same-length-9 : tie.Need-same-length-9
 same-length-9 c =
     let at-layouts4 = c .before .before .before in
-    finish₁₇ at-layouts4 .finish .kept .1 .1 .1 .1 .1 .1 .1 .1 .1 .1 .0 ∙ begin₁₇ at-layouts4 .begin .kept .1 .1 .1 .1 .1 .1 .1 .1 .1 .0
+    finish₁₇ at-layouts4 .finish .kept .1 .1 .1 .1 .1 .1 .1 .1 .1 .1 .1 .0 ∙ begin₁₇ at-layouts4 .begin .kept .1 .1 .1 .1 .1 .1 .1 .1 .1 .1 .0
 
 same-length-10 : tie.Need-same-length-10
 same-length-10 c =
     let at-layouts4 = c .before .before .before in
-    finish₁₇ at-layouts4 .finish .kept .1 .1 .1 .1 .1 .1 .1 .1 .1 .1 .1 .0 ∙ begin₁₇ at-layouts4 .begin .kept .1 .1 .1 .1 .1 .1 .1 .1 .1 .1 .0
+    finish₁₇ at-layouts4 .finish .kept .1 .1 .1 .1 .1 .1 .1 .1 .1 .1 .1 .1 .0 ∙ begin₁₇ at-layouts4 .begin .kept .1 .1 .1 .1 .1 .1 .1 .1 .1 .1 .1 .0
 
 same-length-11 : tie.Need-same-length-11
 same-length-11 c =
     let at-layouts4 = c .before .before .before in
-    finish₁₇ at-layouts4 .finish .kept .1 .1 .1 .1 .1 .1 .1 .1 .1 .1 .1 .1 .0 ∙ begin₁₇ at-layouts4 .begin .kept .1 .1 .1 .1 .1 .1 .1 .1 .1 .1 .1 .0
+    finish₁₇ at-layouts4 .finish .kept .1 .1 .1 .1 .1 .1 .1 .1 .1 .1 .1 .1 .1 .0 ∙ begin₁₇ at-layouts4 .begin .kept .1 .1 .1 .1 .1 .1 .1 .1 .1 .1 .1 .1 .0
 
 same-length-12 : tie.Need-same-length-12
-same-length-12 c = finish₁₇ (c .before .before .before) .finish .kept .1 .1 .1 .1 .1 .1 .1 .1 .1 .1 .1 .1 .1 .1 .1 .1 .1 .0
+same-length-12 c = finish₁₇ (c .before .before .before) .finish .kept .1 .1 .1 .1 .1 .1 .1 .1 .1 .1 .1 .1 .1 .1 .1 .1 .1 .1 .0
 
 returns-2 : tie.Need-returns-2
 unfolding noStore
@@ -231,7 +234,7 @@ returns-2 c =
     let at-layouts4 = c .before .before .before in
     let at-begin = begin₁₇ at-layouts4 in
     let start = start₁₇ at-layouts4 in
-    search-finished (inputs start) (start .args .limits) (work start) noStore (at-begin .begin .result .answer) _ _ _ (at-begin .begin .ensures)
+    search-finished (start .args .steps .now) (inputs start) (start .args .limits) (work start) noStore (at-begin .begin .result .answer) _ _ _ (at-begin .begin .ensures)
     (enum-told₁₇ at-layouts4 .enum-told .given .1) _ _ _ (finish₁₇ at-layouts4 .finish .ensures)
 
 pub search-spec : {M : Type 1} → statement M

@@ -2,7 +2,6 @@
 use borrow.Author.Needs.{needs}
 use mathlib.Core.Path.{sym, _∙_, ap}
 use Rattle.base_model.specs.declared.Query.{Query}
-use Rattle.rule_routes.specs.Edges.{eightSteps}
 use Rattle.rule_layouts.specs.Flat.{inputsOf}
 use Rattle.rule_calls.specs.Areas.{Work, workIn}
 use Rattle.rule_calls.specs.Calls.{judgeCall}
@@ -111,8 +110,8 @@ returns c =
     (a .start-x) (a .start-y) (a .end-x) (a .end-y) (a .block-left) (a .block-top) (a .block-right) (a .block-bottom)
     (a .allow-given) (a .allow-left) (a .allow-top) (a .allow-right) (a .allow-bottom) in
     let w : Work = workIn (a .counts .now) (a .map .now) (a .queue .now) (a .predecessors .now) (a .route .now) in
-    judge-left _ (a .selection .now) w _ _ _ _ _
-    (ap (λ (x : Query). judgeCall eightSteps
+    judge-left (a .steps .now) _ (a .selection .now) w _ _ _ _ _
+    (ap (λ (x : Query). judgeCall (a .steps .now)
     (inputsOf (x) (a .groups .now) (a .numbers .now) (a .edges .now) (a .block-base .now) (a .allow-base .now)) (a .selection .now) w)
     (sym q) ∙ judge₇ at-index-in .judge .ensures)
     (c .answer-in .ensures) (at-index-in .index-in .ensures) (c .before .before .verdict-in .ensures) (c .before .ground-in .ensures)

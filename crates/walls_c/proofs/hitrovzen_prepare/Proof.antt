@@ -2,7 +2,6 @@
 use borrow.Author.Needs.{needs}
 use mathlib.Core.Path.{sym, _∙_, ap}
 use Rattle.base_model.specs.declared.Rect.{Rect}
-use Rattle.rule_routes.specs.Edges.{eightSteps}
 use Rattle.rule_calls.specs.Areas.{Work, workIn}
 use Rattle.rule_calls.specs.Calls.{prepareCall}
 use Rattle.call_prepare.specs.Prepare.{preparation}
@@ -86,8 +85,8 @@ returns c =
     let f = start .fits in
     let w : Work = workIn (a .counts .now) (a .map .now) (a .queue .now) (a .predecessors .now) (a .route .now) in
     let e = rect-back (a .window-left) (a .window-top) (a .window-right) (a .window-bottom) (f .window-left) (f .window-top) (f .window-right) (f .window-bottom) in
-    prepare-left _ (a .baseline .now) w _ _
-    (ap (λ (x : Rect). prepareCall eightSteps
+    prepare-left (a .steps .now) _ (a .baseline .now) w _ _
+    (ap (λ (x : Rect). prepareCall (a .steps .now)
     (preparation (a .across) (a .down) (a .cells .now) (a .obstacles .now) x (record { x = a .start-x; y = a .start-y })
     (record { x = a .end-x; y = a .end-y })
     (record { left = a .mover-left; top = a .mover-top; right = a .mover-right; bottom = a .mover-bottom })) (a .baseline .now) w)

@@ -42,7 +42,6 @@ use denote.Triple.Walked.{says, Stays, stay-none, stay-none-slice, gave-slice, w
 use denote.Triple.Walked.{goes-none-slice, goes-gave-slice}
 use denote.Exit.{yes}
 use denote.Signature.{plain}
-use Rattle.rule_routes.specs.Edges.{eightSteps}
 use Rattle.rule_calls.specs.Areas.{workIn}
 use Rattle.rule_calls.specs.Calls.{judgeCall, judgementOf}
 use Rattle.walls_rows.specs.Rows.{rowsOf}
@@ -85,14 +84,17 @@ stayed = (
         (
           stay-none-slice (3 ∷ []) tt (plain (λ _. u8)) yes,
           (
-            stay-none-slice (4 ∷ []) tt (plain (λ _. u16)) yes,
+            stay-none-slice (4 ∷ []) tt (plain (λ _. i32)) yes,
             (
-              gave-slice (5 ∷ []) tt (plain (λ _. i32)),
+              stay-none-slice (5 ∷ []) tt (plain (λ _. u16)) yes,
               (
-                gave-slice (6 ∷ []) tt (plain (λ _. u8)),
+                gave-slice (6 ∷ []) tt (plain (λ _. i32)),
                 (
-                  gave-slice (7 ∷ []) tt (plain (λ _. u32)),
-                  (gave-slice (8 ∷ []) tt (plain (λ _. u32)), (gave-slice (9 ∷ []) tt (plain (λ _. u32)), tt)),
+                  gave-slice (7 ∷ []) tt (plain (λ _. u8)),
+                  (
+                    gave-slice (8 ∷ []) tt (plain (λ _. u32)),
+                    (gave-slice (9 ∷ []) tt (plain (λ _. u32)), (gave-slice (10 ∷ []) tt (plain (λ _. u32)), tt)),
+                  ),
                 ),
               ),
             ),
@@ -111,20 +113,21 @@ abbrev Flat : {M : Type 1} (𝓤 : URA M) (H : Heap 𝓤) (A : Atoms 𝓤) (mem 
 Flat 𝓤 H A mem run = tripleOf 𝓤 H A flat.signature (flat.spec 𝓤 H A mem run)
 
 module _ {M : Type 1} (𝓤 : URA M) (H : Heap 𝓤) (A : Atoms 𝓤) (W : Given 𝓤 H A) (at-mem : Memory → SProp 𝓤) (run : Routine → Fun 𝓤)
-    (κs : Lfts 10) (qs : Shares 10)
+    (κs : Lfts 11) (qs : Shares 11)
     (a : (Query × (RefT (List ℕ) × (RefT (List Placement) × (RefT (List ℕ) × (RefT (List ℕ) ×
-    (RefT (List ℕ) × (RefT (List ℤ) × (RefT (List ℕ) × (RefT (List ℕ) × (RefT (List ℕ) × (RefT (List ℕ) × Unit {0}))))))))))))
+    (RefT (List ℤ) × (RefT (List ℕ) × (RefT (List ℤ) × (RefT (List ℕ) × (RefT (List ℕ) × (RefT (List ℕ) × (RefT (List ℕ) × Unit {0})))))))))))))
     (g0 : Is Queryᵀ.the-row (a .0) (LL.val Queryᵀ.the-type Queryᴸ.the-laws (a .0) ∷ []))
     (room1 : Room u32 (length (a .1 .0 .now)))
     (room2 : Room Placementᵀ.the-row (length (a .1 .1 .0 .now)))
     (room3 : Room u8 (length (a .1 .1 .1 .0 .now)))
     (room4 : Room u8 (length (a .1 .1 .1 .1 .0 .now)))
-    (room5 : Room u16 (length (a .1 .1 .1 .1 .1 .0 .now)))
-    (room6 : Room i32 (length (a .1 .1 .1 .1 .1 .1 .0 .now)))
-    (room7 : Room u8 (length (a .1 .1 .1 .1 .1 .1 .1 .0 .now)))
-    (room8 : Room u32 (length (a .1 .1 .1 .1 .1 .1 .1 .1 .0 .now)))
+    (room5 : Room i32 (length (a .1 .1 .1 .1 .1 .0 .now)))
+    (room6 : Room u16 (length (a .1 .1 .1 .1 .1 .1 .0 .now)))
+    (room7 : Room i32 (length (a .1 .1 .1 .1 .1 .1 .1 .0 .now)))
+    (room8 : Room u8 (length (a .1 .1 .1 .1 .1 .1 .1 .1 .0 .now)))
     (room9 : Room u32 (length (a .1 .1 .1 .1 .1 .1 .1 .1 .1 .0 .now)))
-    (room10 : Room u32 (length (a .1 .1 .1 .1 .1 .1 .1 .1 .1 .1 .0 .now))) where
+    (room10 : Room u32 (length (a .1 .1 .1 .1 .1 .1 .1 .1 .1 .1 .0 .now)))
+    (room11 : Room u32 (length (a .1 .1 .1 .1 .1 .1 .1 .1 .1 .1 .1 .0 .now))) where
   -- the parameters, each reference with its lifetime and share
   abbrev x0 : Query
   x0 = a .0
@@ -165,7 +168,7 @@ module _ {M : Type 1} (𝓤 : URA M) (H : Heap 𝓤) (A : Atoms 𝓤) (W : Given
   abbrev q4 : Share
   q4 = qs .1 .1 .1 .0
 
-  abbrev p5 : RefT (List ℕ)
+  abbrev p5 : RefT (List ℤ)
   p5 = a .1 .1 .1 .1 .1 .0
 
   abbrev κ5 : Lft
@@ -174,7 +177,7 @@ module _ {M : Type 1} (𝓤 : URA M) (H : Heap 𝓤) (A : Atoms 𝓤) (W : Given
   abbrev q5 : Share
   q5 = qs .1 .1 .1 .1 .0
 
-  abbrev p6 : RefT (List ℤ)
+  abbrev p6 : RefT (List ℕ)
   p6 = a .1 .1 .1 .1 .1 .1 .0
 
   abbrev κ6 : Lft
@@ -183,7 +186,7 @@ module _ {M : Type 1} (𝓤 : URA M) (H : Heap 𝓤) (A : Atoms 𝓤) (W : Given
   abbrev q6 : Share
   q6 = qs .1 .1 .1 .1 .1 .0
 
-  abbrev p7 : RefT (List ℕ)
+  abbrev p7 : RefT (List ℤ)
   p7 = a .1 .1 .1 .1 .1 .1 .1 .0
 
   abbrev κ7 : Lft
@@ -219,8 +222,17 @@ module _ {M : Type 1} (𝓤 : URA M) (H : Heap 𝓤) (A : Atoms 𝓤) (W : Given
   abbrev q10 : Share
   q10 = qs .1 .1 .1 .1 .1 .1 .1 .1 .1 .0
 
+  abbrev p11 : RefT (List ℕ)
+  p11 = a .1 .1 .1 .1 .1 .1 .1 .1 .1 .1 .1 .0
+
+  abbrev κ11 : Lft
+  κ11 = κs .1 .1 .1 .1 .1 .1 .1 .1 .1 .1 .0
+
+  abbrev q11 : Share
+  q11 = qs .1 .1 .1 .1 .1 .1 .1 .1 .1 .1 .0
+
   abbrev at : (List Val × (List Val × (List Val × (List Val × (List Val × (List Val ×
-      (List Val × (List Val × (List Val × (List Val × (List Val × Unit {0})))))))))))
+      (List Val × (List Val × (List Val × (List Val × (List Val × (List Val × Unit {0}))))))))))))
   at = (
     LL.val Queryᵀ.the-type Queryᴸ.the-laws x0 ∷ [],
     (
@@ -239,7 +251,10 @@ module _ {M : Type 1} (𝓤 : URA M) (H : Heap 𝓤) (A : Atoms 𝓤) (W : Given
                   sliceVal (p7 .ptr) (length (p7 .now)) ∷ [],
                   (
                     sliceVal (p8 .ptr) (length (p8 .now)) ∷ [],
-                    (sliceVal (p9 .ptr) (length (p9 .now)) ∷ [], (sliceVal (p10 .ptr) (length (p10 .now)) ∷ [], tt)),
+                    (
+                      sliceVal (p9 .ptr) (length (p9 .now)) ∷ [],
+                      (sliceVal (p10 .ptr) (length (p10 .now)) ∷ [], (sliceVal (p11 .ptr) (length (p11 .now)) ∷ [], tt)),
+                    ),
                   ),
                 ),
               ),
@@ -255,7 +270,7 @@ module _ {M : Type 1} (𝓤 : URA M) (H : Heap 𝓤) (A : Atoms 𝓤) (W : Given
       LL.val Queryᵀ.the-type Queryᴸ.the-laws x0 ∷ sliceVal (p1 .ptr) (length (p1 .now)) ∷ sliceVal (p2 .ptr) (length (p2 .now)) ∷ sliceVal (p3 .ptr)
       (length (p3 .now)) ∷ sliceVal (p4 .ptr) (length (p4 .now)) ∷ sliceVal (p5 .ptr) (length (p5 .now)) ∷ sliceVal (p6 .ptr) (length (p6 .now)) ∷
       sliceVal (p7 .ptr) (length (p7 .now)) ∷ sliceVal (p8 .ptr) (length (p8 .now)) ∷ sliceVal (p9 .ptr) (length (p9 .now)) ∷ sliceVal (p10 .ptr)
-      (length (p10 .now)) ∷ []
+      (length (p10 .now)) ∷ sliceVal (p11 .ptr) (length (p11 .now)) ∷ []
 
   abbrev Own1 : Fml
   Own1 = (ShrSlice (named 0) κ1 u32) .own p1 (sliceVal (p1 .ptr) (length (p1 .now)) ∷ [])
@@ -267,7 +282,10 @@ module _ {M : Type 1} (𝓤 : URA M) (H : Heap 𝓤) (A : Atoms 𝓤) (W : Given
   Own4 = (ShrSlice (named 3) κ4 u8) .own p4 (sliceVal (p4 .ptr) (length (p4 .now)) ∷ [])
 
   abbrev Own5 : Fml
-  Own5 = (ShrSlice (named 4) κ5 u16) .own p5 (sliceVal (p5 .ptr) (length (p5 .now)) ∷ [])
+  Own5 = (ShrSlice (named 4) κ5 i32) .own p5 (sliceVal (p5 .ptr) (length (p5 .now)) ∷ [])
+
+  abbrev Own6 : Fml
+  Own6 = (ShrSlice (named 5) κ6 u16) .own p6 (sliceVal (p6 .ptr) (length (p6 .now)) ∷ [])
 
   abbrev Own2 : Fml
   Own2 = (ShrSlice (named 1) κ2 Placementᵀ.the-row) .own p2 (sliceVal (p2 .ptr) (length (p2 .now)) ∷ [])
@@ -276,18 +294,19 @@ module _ {M : Type 1} (𝓤 : URA M) (H : Heap 𝓤) (A : Atoms 𝓤) (W : Given
   Post = walkOf 𝓤 H A f.ended stayed (f.clauses 𝓤 H A at-mem run) .post ((κs, qs, tt, a, at), tt)
 
   abbrev c-args : Rows → (Query × (RefT (List ℕ) × (Rows × (ℕ × (RefT (List ℕ) ×
-      (RefT (List ℕ) × (RefT (List ℕ) × (RefT (List ℤ) × (RefT (List ℕ) × (RefT (List ℕ) × (RefT (List ℕ) × (RefT (List ℕ) × Unit {0}))))))))))))
-  c-args fl = (x0, (p1, (fl, (length (p2 .now), (p3, (p4, (p5, (p6, (p7, (p8, (p9, (p10, tt))))))))))))
+      (RefT (List ℕ) × (RefT (List ℤ) × (RefT (List ℕ) × (RefT (List ℤ) × (RefT (List ℕ) ×
+      (RefT (List ℕ) × (RefT (List ℕ) × (RefT (List ℕ) × Unit {0})))))))))))))
+  c-args fl = (x0, (p1, (fl, (length (p2 .now), (p3, (p4, (p5, (p6, (p7, (p8, (p9, (p10, (p11, tt)))))))))))))
 
   -- what the core's triple binds outside: each borrow at its own lifetime and share
-  abbrev cκs : Lfts 9
-  cκs = (κ1, (κ3, (κ4, (κ5, (κ6, (κ7, (κ8, (κ9, (κ10, tt)))))))))
+  abbrev cκs : Lfts 10
+  cκs = (κ1, (κ3, (κ4, (κ5, (κ6, (κ7, (κ8, (κ9, (κ10, (κ11, tt))))))))))
 
   abbrev to-core : Rows → Core 𝓤 H A at-mem run .Ghost
   to-core fl = (
     (
       cκs,
-      (q1, (q3, (q4, (q5, (q6, (q7, (q8, (q9, (q10, tt))))))))),
+      (q1, (q3, (q4, (q5, (q6, (q7, (q8, (q9, (q10, (q11, tt)))))))))),
       tt,
       c-args fl,
       (
@@ -310,7 +329,10 @@ module _ {M : Type 1} (𝓤 : URA M) (H : Heap 𝓤) (A : Atoms 𝓤) (W : Given
                         sliceVal (p7 .ptr) (length (p7 .now)) ∷ [],
                         (
                           sliceVal (p8 .ptr) (length (p8 .now)) ∷ [],
-                          (sliceVal (p9 .ptr) (length (p9 .now)) ∷ [], (sliceVal (p10 .ptr) (length (p10 .now)) ∷ [], tt)),
+                          (
+                            sliceVal (p9 .ptr) (length (p9 .now)) ∷ [],
+                            (sliceVal (p10 .ptr) (length (p10 .now)) ∷ [], (sliceVal (p11 .ptr) (length (p11 .now)) ∷ [], tt)),
+                          ),
                         ),
                       ),
                     ),
@@ -341,22 +363,23 @@ module _ {M : Type 1} (𝓤 : URA M) (H : Heap 𝓤) (A : Atoms 𝓤) (W : Given
   abbrev Lent : List (Item 𝓤)
   Lent =
       ‵ (flft κ1 q1) ∷ ‵ (flft κ3 q3) ∷ ‵ (flft κ4 q4) ∷ ‵ (flft κ5 q5) ∷ ‵ (flft κ6 q6) ∷ ‵ (flft κ7 q7) ∷ ‵ (flft κ8 q8) ∷ ‵ (flft κ9 q9) ∷ ‵
-      (flft κ10 q10) ∷ ‵ Own1 ∷ ‵ Own3 ∷ ‵ Own4 ∷ ‵ Own5 ∷ ‵ ((MutSlice (named 5) κ6 i32) .own p6 (sliceVal (p6 .ptr) (length (p6 .now)) ∷ [])) ∷ ‵
-      ((MutSlice (named 6) κ7 u8) .own p7 (sliceVal (p7 .ptr) (length (p7 .now)) ∷ [])) ∷ ‵
-      ((MutSlice (named 7) κ8 u32) .own p8 (sliceVal (p8 .ptr) (length (p8 .now)) ∷ [])) ∷ ‵
+      (flft κ10 q10) ∷ ‵ (flft κ11 q11) ∷ ‵ Own1 ∷ ‵ Own3 ∷ ‵ Own4 ∷ ‵ Own5 ∷ ‵ Own6 ∷ ‵
+      ((MutSlice (named 6) κ7 i32) .own p7 (sliceVal (p7 .ptr) (length (p7 .now)) ∷ [])) ∷ ‵
+      ((MutSlice (named 7) κ8 u8) .own p8 (sliceVal (p8 .ptr) (length (p8 .now)) ∷ [])) ∷ ‵
       ((MutSlice (named 8) κ9 u32) .own p9 (sliceVal (p9 .ptr) (length (p9 .now)) ∷ [])) ∷ ‵
-      ((MutSlice (named 9) κ10 u32) .own p10 (sliceVal (p10 .ptr) (length (p10 .now)) ∷ [])) ∷ []
+      ((MutSlice (named 9) κ10 u32) .own p10 (sliceVal (p10 .ptr) (length (p10 .now)) ∷ [])) ∷ ‵
+      ((MutSlice (named 10) κ11 u32) .own p11 (sliceVal (p11 .ptr) (length (p11 .now)) ∷ [])) ∷ []
 
   goes : (fl : Rows) → Is Rowsᵀ.the-row fl (LL.val Rowsᵀ.the-type Rowsᴸ.the-laws fl ∷ []) → ent 𝓤 (⋆ 𝓤 H A Lent)
       (Core 𝓤 H A at-mem run .pre (to-core fl))
   goes fl gf =
       qed W Lent ∵
-      nothing ! $ move ! (9 ∷ 0 ∷ []) $ join ! $ move ! (8 ∷ 0 ∷ []) $ join ! $ move ! (7 ∷ 0 ∷ []) $ join ! $ move ! (6 ∷ 0 ∷ []) $ join ! $
-      move ! (5 ∷ 0 ∷ []) $ join ! $ move ! (4 ∷ 0 ∷ []) $ join ! $ move ! (3 ∷ 0 ∷ []) $ join ! $ move ! (2 ∷ 0 ∷ []) $ join ! $
-      move ! (1 ∷ 0 ∷ []) $ join ! $
-      nothing ! $ move ! (10 ∷ 0 ∷ []) $ fjoin ! $ move ! (9 ∷ 0 ∷ []) $ fjoin ! $ move ! (8 ∷ 0 ∷ []) $ fjoin ! $ move ! (7 ∷ 0 ∷ []) $ fjoin ! $
-      move ! (6 ∷ 0 ∷ []) $ fjoin ! $ move ! (5 ∷ 0 ∷ []) $ fjoin ! $ move ! (4 ∷ 0 ∷ []) $ fjoin ! $ move ! (3 ∷ 0 ∷ []) $ fjoin ! $
-      owned ! usize (Is usize) (uint-makes 𝓤 H A W w64) (length (p2 .now)) _ (refl, room2 .0) $ fjoin ! $
+      nothing ! $ move ! (10 ∷ 0 ∷ []) $ join ! $ move ! (9 ∷ 0 ∷ []) $ join ! $ move ! (8 ∷ 0 ∷ []) $ join ! $ move ! (7 ∷ 0 ∷ []) $ join ! $
+      move ! (6 ∷ 0 ∷ []) $ join ! $ move ! (5 ∷ 0 ∷ []) $ join ! $ move ! (4 ∷ 0 ∷ []) $ join ! $ move ! (3 ∷ 0 ∷ []) $ join ! $
+      move ! (2 ∷ 0 ∷ []) $ join ! $ move ! (1 ∷ 0 ∷ []) $ join ! $
+      nothing ! $ move ! (11 ∷ 0 ∷ []) $ fjoin ! $ move ! (10 ∷ 0 ∷ []) $ fjoin ! $ move ! (9 ∷ 0 ∷ []) $ fjoin ! $ move ! (8 ∷ 0 ∷ []) $ fjoin ! $
+      move ! (7 ∷ 0 ∷ []) $ fjoin ! $ move ! (6 ∷ 0 ∷ []) $ fjoin ! $ move ! (5 ∷ 0 ∷ []) $ fjoin ! $ move ! (4 ∷ 0 ∷ []) $ fjoin ! $
+      move ! (3 ∷ 0 ∷ []) $ fjoin ! $ owned ! usize (Is usize) (uint-makes 𝓤 H A W w64) (length (p2 .now)) _ (refl, room2 .0) $ fjoin ! $
       owned ! Rowsᵀ.the-row (Is Rowsᵀ.the-row) (LL.makes Rowsᵀ.the-type Rowsᴸ.the-plain 𝓤 H A) fl _ gf $ fjoin ! $ move ! (2 ∷ 0 ∷ []) $ fjoin ! $
       owned ! Queryᵀ.the-row (Is Queryᵀ.the-row) (LL.makes Queryᵀ.the-type Queryᴸ.the-plain 𝓤 H A) x0 _ g0 $ fjoin ! $ move ! (1 ∷ 0 ∷ []) $
       join ! $ frame ! $
@@ -366,12 +389,9 @@ module _ {M : Type 1} (𝓤 : URA M) (H : Heap 𝓤) (A : Atoms 𝓤) (W : Given
   abbrev Last : Type 0
   Last =
       (Unit {0} × (Unit {0} × (Unit {0} × (Unit {0} × (Unit {0} × (Unit {0} × (Unit {0} ×
-      (List ℤ × (List ℕ × (List ℕ × (List ℕ × (List ℕ × Unit {0}))))))))))))
+      (Unit {0} × (List ℤ × (List ℕ × (List ℕ × (List ℕ × (List ℕ × Unit {0})))))))))))))
 
-  abbrev z6 : Last → List ℤ
-  z6 zs = zs .1 .1 .1 .1 .1 .1 .1 .0
-
-  abbrev z7 : Last → List ℕ
+  abbrev z7 : Last → List ℤ
   z7 zs = zs .1 .1 .1 .1 .1 .1 .1 .1 .0
 
   abbrev z8 : Last → List ℕ
@@ -383,54 +403,57 @@ module _ {M : Type 1} (𝓤 : URA M) (H : Heap 𝓤) (A : Atoms 𝓤) (W : Given
   abbrev z10 : Last → List ℕ
   z10 zs = zs .1 .1 .1 .1 .1 .1 .1 .1 .1 .1 .1 .0
 
+  abbrev z11 : Last → List ℕ
+  z11 zs = zs .1 .1 .1 .1 .1 .1 .1 .1 .1 .1 .1 .1 .0
+
   abbrev Said : Rows → Judged → Last → Type 0
   Said fl r zs =
       (ps : List Placement) → fl ≡ rowsOf ps → (length (p2 .now)) ≡ length ps
-      → judgeCall eightSteps
+      → judgeCall (p5 .now)
       (given x0 (p1 .now) ps (p3 .now) (p4 .now))
-      (p5 .now)
-      (workIn (p6 .now) (p7 .now) (p8 .now) (p9 .now) (p10 .now))
+      (p6 .now)
+      (workIn (p7 .now) (p8 .now) (p9 .now) (p10 .now) (p11 .now))
       ≡ record {
         answer = judgementOf r;
-        work = workIn (z6 zs) (z7 zs) (z8 zs) (z9 zs) (z10 zs);
+        work = workIn (z7 zs) (z8 zs) (z9 zs) (z10 zs) (z11 zs);
       }
 
   abbrev Told : Judged → Last → Type 0
   Told r zs =
-      judgeCall eightSteps
+      judgeCall (p5 .now)
       (given x0 (p1 .now) (p2 .now) (p3 .now) (p4 .now))
-      (p5 .now)
-      (workIn (p6 .now) (p7 .now) (p8 .now) (p9 .now) (p10 .now))
+      (p6 .now)
+      (workIn (p7 .now) (p8 .now) (p9 .now) (p10 .now) (p11 .now))
       ≡ record {
         answer = judgementOf r;
-        work = workIn (z6 zs) (z7 zs) (z8 zs) (z9 zs) (z10 zs);
+        work = workIn (z7 zs) (z8 zs) (z9 zs) (z10 zs) (z11 zs);
       }
 
   abbrev Left : (r : Judged) (w : Val) → Last → List (Item 𝓤)
   Left r w zs =
       ‵ (flft κ1 q1) ∷ ‵ (flft κ2 q2) ∷ ‵ (flft κ3 q3) ∷ ‵ (flft κ4 q4) ∷ ‵ (flft κ5 q5) ∷ ‵ (flft κ6 q6) ∷ ‵ (flft κ7 q7) ∷ ‵ (flft κ8 q8) ∷ ‵
-      (flft κ9 q9) ∷ ‵ (flft κ10 q10) ∷ ‵ Own1 ∷ ‵ Own2 ∷ ‵ Own3 ∷ ‵ Own4 ∷ ‵ Own5 ∷ ‵ (finally i32 (p6 .name) (z6 zs)) ∷ ‵
-      (finally u8 (p7 .name) (z7 zs)) ∷ ‵ (finally u32 (p8 .name) (z8 zs)) ∷ ‵ (finally u32 (p9 .name) (z9 zs)) ∷ ‵
-      (finally u32 (p10 .name) (z10 zs)) ∷ ‵ (Judgedᵀ.the-row .own r (w ∷ [])) ∷ []
+      (flft κ9 q9) ∷ ‵ (flft κ10 q10) ∷ ‵ (flft κ11 q11) ∷ ‵ Own1 ∷ ‵ Own2 ∷ ‵ Own3 ∷ ‵ Own4 ∷ ‵ Own5 ∷ ‵ Own6 ∷ ‵ (finally i32 (p7 .name) (z7 zs))
+      ∷ ‵ (finally u8 (p8 .name) (z8 zs)) ∷ ‵ (finally u32 (p9 .name) (z9 zs)) ∷ ‵ (finally u32 (p10 .name) (z10 zs)) ∷ ‵
+      (finally u32 (p11 .name) (z11 zs)) ∷ ‵ (Judgedᵀ.the-row .own r (w ∷ [])) ∷ []
 
   -- what the exit needs to show of a postcondition K
   abbrev Ex : (Val → SProp 𝓤) → Type 1
   Ex K =
-      (r : Judged) (w : Val) (zs : Last) → Told r zs → length (z6 zs) ≡ length (p6 .now) → length (z7 zs) ≡ length (p7 .now) → length (z8 zs) ≡
-      length (p8 .now) → length (z9 zs) ≡ length (p9 .now) → length (z10 zs) ≡ length (p10 .now) → ent 𝓤 (⋆ 𝓤 H A (Left r w zs)) (K w)
+      (r : Judged) (w : Val) (zs : Last) → Told r zs → length (z7 zs) ≡ length (p7 .now) → length (z8 zs) ≡ length (p8 .now) → length (z9 zs) ≡
+      length (p9 .now) → length (z10 zs) ≡ length (p10 .now) → length (z11 zs) ≡ length (p11 .now) → ent 𝓤 (⋆ 𝓤 H A (Left r w zs)) (K w)
 
   exits : Ex Post
-  exits r w zs e l6 l7 l8 l9 l10 =
+  exits r w zs e l7 l8 l9 l10 l11 =
       qed W (Left r w zs) ∵
       suffices ! _ (ends-at 𝓤 H A f.ended stayed (f.clauses 𝓤 H A at-mem run) W ((κs, qs, tt, a, at), tt) w r
-      (tt, (tt, (tt, (tt, (tt, (tt, (z6 zs, (z7 zs, (z8 zs, (z9 zs, (z10 zs, tt)))))))))))
-      (tt, (tt, (tt, (tt, (tt, (tt, (l6, (l7, (l8, (l9, (l10, tt)))))))))))) $ says ! e $
-      nothing ! $ move ! (10 ∷ 0 ∷ []) $ join ! $ move ! (9 ∷ 0 ∷ []) $ join ! $ move ! (8 ∷ 0 ∷ []) $ join ! $ move ! (7 ∷ 0 ∷ []) $ join ! $
-      move ! (6 ∷ 0 ∷ []) $ join ! $ move ! (5 ∷ 0 ∷ []) $ join ! $ move ! (4 ∷ 0 ∷ []) $ join ! $ move ! (3 ∷ 0 ∷ []) $ join ! $
-      move ! (2 ∷ 0 ∷ []) $ join ! $ move ! (1 ∷ 0 ∷ []) $ join ! $ frame ! $
-      nothing ! $ move ! (10 ∷ 0 ∷ []) $ fjoin ! $ move ! (9 ∷ 0 ∷ []) $ fjoin ! $ move ! (8 ∷ 0 ∷ []) $ fjoin ! $ move ! (7 ∷ 0 ∷ []) $ fjoin ! $
-      move ! (6 ∷ 0 ∷ []) $ fjoin ! $ move ! (5 ∷ 0 ∷ []) $ fjoin ! $ move ! (4 ∷ 0 ∷ []) $ fjoin ! $ move ! (3 ∷ 0 ∷ []) $ fjoin ! $
-      move ! (2 ∷ 0 ∷ []) $ fjoin ! $ move ! (1 ∷ 0 ∷ []) $ fjoin ! $
+      (tt, (tt, (tt, (tt, (tt, (tt, (tt, (z7 zs, (z8 zs, (z9 zs, (z10 zs, (z11 zs, tt))))))))))))
+      (tt, (tt, (tt, (tt, (tt, (tt, (tt, (l7, (l8, (l9, (l10, (l11, tt))))))))))))) $ says ! e $
+      nothing ! $ move ! (11 ∷ 0 ∷ []) $ join ! $ move ! (10 ∷ 0 ∷ []) $ join ! $ move ! (9 ∷ 0 ∷ []) $ join ! $ move ! (8 ∷ 0 ∷ []) $ join ! $
+      move ! (7 ∷ 0 ∷ []) $ join ! $ move ! (6 ∷ 0 ∷ []) $ join ! $ move ! (5 ∷ 0 ∷ []) $ join ! $ move ! (4 ∷ 0 ∷ []) $ join ! $
+      move ! (3 ∷ 0 ∷ []) $ join ! $ move ! (2 ∷ 0 ∷ []) $ join ! $ move ! (1 ∷ 0 ∷ []) $ join ! $ frame ! $
+      nothing ! $ move ! (11 ∷ 0 ∷ []) $ fjoin ! $ move ! (10 ∷ 0 ∷ []) $ fjoin ! $ move ! (9 ∷ 0 ∷ []) $ fjoin ! $ move ! (8 ∷ 0 ∷ []) $ fjoin ! $
+      move ! (7 ∷ 0 ∷ []) $ fjoin ! $ move ! (6 ∷ 0 ∷ []) $ fjoin ! $ move ! (5 ∷ 0 ∷ []) $ fjoin ! $ move ! (4 ∷ 0 ∷ []) $ fjoin ! $
+      move ! (3 ∷ 0 ∷ []) $ fjoin ! $ move ! (2 ∷ 0 ∷ []) $ fjoin ! $ move ! (1 ∷ 0 ∷ []) $ fjoin ! $
       owned ! Queryᵀ.the-row (Is Queryᵀ.the-row) (LL.makes Queryᵀ.the-type Queryᴸ.the-plain 𝓤 H A) x0 _ g0 $ fjoin ! $
       done !
 
@@ -439,36 +462,38 @@ module _ {M : Type 1} (𝓤 : URA M) (H : Heap 𝓤) (A : Atoms 𝓤) (W : Given
     walk : ent 𝓤 (onEntry 𝓤 H A f.signature κs qs a at) (WpFn 𝓤 H C Λ code.function values K)
     walk =
         qed W ((‵ (flft κ1 q1) ⊛ ‵ (flft κ2 q2) ⊛ ‵ (flft κ3 q3) ⊛ ‵ (flft κ4 q4) ⊛ ‵ (flft κ5 q5) ⊛ ‵ (flft κ6 q6) ⊛ ‵ (flft κ7 q7) ⊛ ‵
-        (flft κ8 q8) ⊛ ‵ (flft κ9 q9) ⊛ ‵ (flft κ10 q10) ⊛ ‵ ftrue) ∷ ‵ (owns (Queryᵀ.the-row ∷ ShrSlice (named 0) κ1 u32 ∷ ShrSlice (named 1) κ2
-        Placementᵀ.the-row ∷ ShrSlice (named 2) κ3 u8 ∷ ShrSlice (named 3) κ4 u8 ∷ ShrSlice (named 4) κ5 u16 ∷ MutSlice (named 5) κ6 i32 ∷ MutSlice
-        (named 6) κ7 u8 ∷ MutSlice (named 7) κ8 u32 ∷ MutSlice (named 8) κ9 u32 ∷ MutSlice (named 9) κ10 u32 ∷ []) a at) ∷ []) ∵
+        (flft κ8 q8) ⊛ ‵ (flft κ9 q9) ⊛ ‵ (flft κ10 q10) ⊛ ‵ (flft κ11 q11) ⊛ ‵ ftrue) ∷ ‵
+        (owns (Queryᵀ.the-row ∷ ShrSlice (named 0) κ1 u32 ∷ ShrSlice (named 1) κ2 Placementᵀ.the-row ∷ ShrSlice (named 2) κ3 u8 ∷ ShrSlice (named 3)
+        κ4 u8 ∷ ShrSlice (named 4) κ5 i32 ∷ ShrSlice (named 5) κ6 u16 ∷ MutSlice (named 6) κ7 i32 ∷ MutSlice (named 7) κ8 u8 ∷ MutSlice (named 8) κ9
+        u32 ∷ MutSlice (named 9) κ10 u32 ∷ MutSlice (named 10) κ11 u32 ∷ []) a at) ∷ []) ∵
         enter ! C Λ code.function values _ $
         alloc1 ! (λ l₀. alloc1 ! (λ l₁. alloc1 ! (λ l₂. alloc1 ! (λ l₃. alloc1 ! (λ l₄. alloc1 ! (λ l₅. alloc1 ! (λ l₆. alloc1 ! (λ l₇.
         alloc1 ! (λ l₈. alloc1 ! (λ l₉. alloc1 ! (λ l₁₀. alloc1 ! (λ l₁₁. alloc1 ! (λ l₁₂. alloc1 ! (λ l₁₃. alloc1 ! (λ l₁₄. alloc1 ! (λ l₁₅.
         alloc1 ! (λ l₁₆. alloc1 ! (λ l₁₇. alloc1 ! (λ l₁₈. alloc1 ! (λ l₁₉. alloc1 ! (λ l₂₀. alloc1 ! (λ l₂₁. alloc1 ! (λ l₂₂. alloc1 ! (λ l₂₃.
-        alloc0 ! $ params1 ! $
-        pass1 ! (init ! 44 refl (LL.lawful Queryᵀ.the-type Queryᴸ.the-laws 𝓤 H A W .typed x0 _ g0 .0)) $
-        pass1 ! (init ! 42 refl (tt, (tt, (record { fits = room1 .0 }, tt)))) $
-        pass1 ! (init ! 40 refl (tt, (tt, (record { fits = room2 .0 }, tt)))) $
-        pass1 ! (init ! 38 refl (tt, (tt, (record { fits = room3 .0 }, tt)))) $
-        pass1 ! (init ! 36 refl (tt, (tt, (record { fits = room4 .0 }, tt)))) $
-        pass1 ! (init ! 34 refl (tt, (tt, (record { fits = room5 .0 }, tt)))) $
-        pass1 ! (init ! 32 refl (tt, (tt, (record { fits = room6 .0 }, tt)))) $
-        pass1 ! (init ! 30 refl (tt, (tt, (record { fits = room7 .0 }, tt)))) $
-        pass1 ! (init ! 28 refl (tt, (tt, (record { fits = room8 .0 }, tt)))) $
-        pass1 ! (init ! 26 refl (tt, (tt, (record { fits = room9 .0 }, tt)))) $
-        pass1 ! (init ! 24 refl (tt, (tt, (record { fits = room10 .0 }, tt)))) $ pass0 ! $
-        move ! (49 ∷ []) $ fsplit ! $ drop ! $ fsplit ! $ move ! (1 ∷ []) $ fsplit ! $ move ! (1 ∷ []) $ fsplit ! $ move ! (1 ∷ []) $ fsplit ! $
+        alloc1 ! (λ l₂₄. alloc0 ! $ params1 ! $
+        pass1 ! (init ! 46 refl (LL.lawful Queryᵀ.the-type Queryᴸ.the-laws 𝓤 H A W .typed x0 _ g0 .0)) $
+        pass1 ! (init ! 44 refl (tt, (tt, (record { fits = room1 .0 }, tt)))) $
+        pass1 ! (init ! 42 refl (tt, (tt, (record { fits = room2 .0 }, tt)))) $
+        pass1 ! (init ! 40 refl (tt, (tt, (record { fits = room3 .0 }, tt)))) $
+        pass1 ! (init ! 38 refl (tt, (tt, (record { fits = room4 .0 }, tt)))) $
+        pass1 ! (init ! 36 refl (tt, (tt, (record { fits = room5 .0 }, tt)))) $
+        pass1 ! (init ! 34 refl (tt, (tt, (record { fits = room6 .0 }, tt)))) $
+        pass1 ! (init ! 32 refl (tt, (tt, (record { fits = room7 .0 }, tt)))) $
+        pass1 ! (init ! 30 refl (tt, (tt, (record { fits = room8 .0 }, tt)))) $
+        pass1 ! (init ! 28 refl (tt, (tt, (record { fits = room9 .0 }, tt)))) $
+        pass1 ! (init ! 26 refl (tt, (tt, (record { fits = room10 .0 }, tt)))) $
+        pass1 ! (init ! 24 refl (tt, (tt, (record { fits = room11 .0 }, tt)))) $ pass0 ! $
+        move ! (51 ∷ []) $ fsplit ! $ drop ! $ fsplit ! $ move ! (1 ∷ []) $ fsplit ! $ move ! (1 ∷ []) $ fsplit ! $ move ! (1 ∷ []) $ fsplit ! $
         move ! (1 ∷ []) $ fsplit ! $ move ! (1 ∷ []) $ fsplit ! $ move ! (1 ∷ []) $ fsplit ! $ move ! (1 ∷ []) $ fsplit ! $ move ! (1 ∷ []) $
-        fsplit ! $ move ! (1 ∷ []) $ fsplit ! $ move ! (1 ∷ []) $ drop ! $
-        move ! (58 ∷ []) $ split ! $ move ! (1 ∷ []) $ split ! $ move ! (1 ∷ []) $ split ! $ move ! (1 ∷ []) $ split ! $ move ! (1 ∷ []) $ split ! $
+        fsplit ! $ move ! (1 ∷ []) $ fsplit ! $ move ! (1 ∷ []) $ fsplit ! $ move ! (1 ∷ []) $ drop ! $
+        move ! (61 ∷ []) $ split ! $ move ! (1 ∷ []) $ split ! $ move ! (1 ∷ []) $ split ! $ move ! (1 ∷ []) $ split ! $ move ! (1 ∷ []) $ split ! $
         move ! (1 ∷ []) $ split ! $ move ! (1 ∷ []) $ split ! $ move ! (1 ∷ []) $ split ! $ move ! (1 ∷ []) $ split ! $ move ! (1 ∷ []) $ split ! $
-        move ! (1 ∷ []) $ drop ! $
+        move ! (1 ∷ []) $ split ! $ move ! (1 ∷ []) $ drop ! $
         -- the placements laid flat
-        move ! (18 ∷ []) $
+        move ! (20 ∷ []) $
         use1 W (‵ Own2 ⊛ ‵ Own2) (shr-slice-copy 𝓤 H A W (named 1) κ2 Placementᵀ.the-row .twice p2 (sliceVal (p2 .ptr) (length (p2 .now)) ∷ [])) $
-        split ! $ move ! (10 ∷ 0 ∷ []) $ use2 W (raw (Flat 𝓤 H A at-mem run .pre to-flat)) asks-flat $
-        calls-at ! fm (Flat 𝓤 H A at-mem run) fknown to-flat (and-then ! (load ! (from ! (stop !)) (look ! 60 refl)) (no-more !)) (λ wf.
+        split ! $ move ! (11 ∷ 0 ∷ []) $ use2 W (raw (Flat 𝓤 H A at-mem run .pre to-flat)) asks-flat $
+        calls-at ! fm (Flat 𝓤 H A at-mem run) fknown to-flat (and-then ! (load ! (from ! (stop !)) (look ! 64 refl)) (no-more !)) (λ wf.
         use1 W (later (some (λ (fl : Rows). ((‵ (flft κ2 q2) ⊛ ‵ ftrue) ⊛ ‵ (Rowsᵀ.the-row .own fl (wf ∷ []))) ⊛ raw
         (ensured 𝓤 H A flat.ended (flat.clauses 𝓤 H A at-mem run) (κ2, tt) (p2, tt) tt fl)))) (id⊢ 𝓤 _) $
         await ! tt $ pick ! (λ fl.
@@ -476,80 +501,84 @@ module _ {M : Type 1} (𝓤 : URA M) (H : Heap 𝓤) (A : Atoms 𝓤) (W : Given
         use1 W (some (λ (zf : Unit {0} × Unit {0}). ‵ (lasts flat.ended (κ2, tt) (p2, tt) zf) ⊛ raw (fact 𝓤 (fl ≡ rowsOf (p2 .now))))) (id⊢ 𝓤 _) $
         pick ! (λ zf. split ! $ move ! (1 ∷ []) $ heard ! (fl ≡ rowsOf (p2 .now)) (λ ef.
         drop ! $ split ! $ split ! $ move ! (2 ∷ []) $ peeks ! Rowsᵀ.the-row (Is Rowsᵀ.the-row) (shows 𝓤 H A Rowsᵀ.the-row) fl (wf ∷ []) (λ isf.
-        drop ! $ land ! (from ! (stop !)) (init ! 43 refl (LL.lawful Rowsᵀ.the-type Rowsᴸ.the-laws 𝓤 H A W .typed fl _ isf .0)) $
-        rewrite ! 43 (λ (v : Val). ‵ (fat fullShare Rowsᴸ.mir l₁₂ 0 v)) (ap only (LL.tells Rowsᵀ.the-type Rowsᴸ.the-laws fl (wf ∷ []) isf)) refl $
+        drop ! $ land ! (from ! (stop !)) (init ! 45 refl (LL.lawful Rowsᵀ.the-type Rowsᴸ.the-laws 𝓤 H A W .typed fl _ isf .0)) $
+        rewrite ! 45 (λ (v : Val). ‵ (fat fullShare Rowsᴸ.mir l₁₃ 0 v)) (ap only (LL.tells Rowsᵀ.the-type Rowsᴸ.the-laws fl (wf ∷ []) isf)) refl $
         -- the core's operands
-        assigns ! (of-opd ! (load ! (from ! (fld ! refl (stop !))) (look-in ! 61 (sub ! 1 refl (whole !))))) (from ! (stop !))
-        (init ! 41 refl (tt, record { fits = room2 .0 })) $
+        assigns ! (of-opd ! (load ! (from ! (fld ! refl (stop !))) (look-in ! 65 (sub ! 1 refl (whole !))))) (from ! (stop !))
+        (init ! 43 refl (tt, record { fits = room2 .0 })) $
+        assigns ! (addr ! (from ! (fld ! refl (hop ! (look-in ! 55 (sub ! 0 refl (whole !))) (stop !))))) (from ! (stop !))
+        (init ! 41 refl (tt, tt)) $
+        assigns ! (agg ! (and-then ! (load ! (from ! (stop !)) (look ! 41 refl))
+        (and-then ! (load ! (from ! (fld ! refl (stop !))) (look-in ! 55 (sub ! 1 refl (whole !)))) (no-more !)))) (from ! (stop !))
+        (init ! 39 refl (tt, (tt, (record { fits = room7 .0 }, tt)))) $
         assigns ! (addr ! (from ! (fld ! refl (hop ! (look-in ! 53 (sub ! 0 refl (whole !))) (stop !))))) (from ! (stop !))
-        (init ! 39 refl (tt, tt)) $
-        assigns ! (agg ! (and-then ! (load ! (from ! (stop !)) (look ! 39 refl))
+        (init ! 37 refl (tt, tt)) $
+        assigns ! (agg ! (and-then ! (load ! (from ! (stop !)) (look ! 37 refl))
         (and-then ! (load ! (from ! (fld ! refl (stop !))) (look-in ! 53 (sub ! 1 refl (whole !)))) (no-more !)))) (from ! (stop !))
-        (init ! 37 refl (tt, (tt, (record { fits = room6 .0 }, tt)))) $
+        (init ! 35 refl (tt, (tt, (record { fits = room8 .0 }, tt)))) $
         assigns ! (addr ! (from ! (fld ! refl (hop ! (look-in ! 51 (sub ! 0 refl (whole !))) (stop !))))) (from ! (stop !))
-        (init ! 35 refl (tt, tt)) $
-        assigns ! (agg ! (and-then ! (load ! (from ! (stop !)) (look ! 35 refl))
+        (init ! 33 refl (tt, tt)) $
+        assigns ! (agg ! (and-then ! (load ! (from ! (stop !)) (look ! 33 refl))
         (and-then ! (load ! (from ! (fld ! refl (stop !))) (look-in ! 51 (sub ! 1 refl (whole !)))) (no-more !)))) (from ! (stop !))
-        (init ! 33 refl (tt, (tt, (record { fits = room7 .0 }, tt)))) $
+        (init ! 31 refl (tt, (tt, (record { fits = room9 .0 }, tt)))) $
         assigns ! (addr ! (from ! (fld ! refl (hop ! (look-in ! 49 (sub ! 0 refl (whole !))) (stop !))))) (from ! (stop !))
-        (init ! 31 refl (tt, tt)) $
-        assigns ! (agg ! (and-then ! (load ! (from ! (stop !)) (look ! 31 refl))
+        (init ! 29 refl (tt, tt)) $
+        assigns ! (agg ! (and-then ! (load ! (from ! (stop !)) (look ! 29 refl))
         (and-then ! (load ! (from ! (fld ! refl (stop !))) (look-in ! 49 (sub ! 1 refl (whole !)))) (no-more !)))) (from ! (stop !))
-        (init ! 29 refl (tt, (tt, (record { fits = room8 .0 }, tt)))) $
+        (init ! 27 refl (tt, (tt, (record { fits = room10 .0 }, tt)))) $
         assigns ! (addr ! (from ! (fld ! refl (hop ! (look-in ! 47 (sub ! 0 refl (whole !))) (stop !))))) (from ! (stop !))
-        (init ! 27 refl (tt, tt)) $
-        assigns ! (agg ! (and-then ! (load ! (from ! (stop !)) (look ! 27 refl))
+        (init ! 25 refl (tt, tt)) $
+        assigns ! (agg ! (and-then ! (load ! (from ! (stop !)) (look ! 25 refl))
         (and-then ! (load ! (from ! (fld ! refl (stop !))) (look-in ! 47 (sub ! 1 refl (whole !)))) (no-more !)))) (from ! (stop !))
-        (init ! 25 refl (tt, (tt, (record { fits = room9 .0 }, tt)))) $
-        assigns ! (addr ! (from ! (fld ! refl (hop ! (look-in ! 45 (sub ! 0 refl (whole !))) (stop !))))) (from ! (stop !))
-        (init ! 23 refl (tt, tt)) $
-        assigns ! (agg ! (and-then ! (load ! (from ! (stop !)) (look ! 23 refl))
-        (and-then ! (load ! (from ! (fld ! refl (stop !))) (look-in ! 45 (sub ! 1 refl (whole !)))) (no-more !)))) (from ! (stop !))
-        (init ! 21 refl (tt, (tt, (record { fits = room10 .0 }, tt)))) $
-        move ! (20 ∷ []) $
-        use1 W (‵ Own1 ⊛ ‵ Own1) (shr-slice-copy 𝓤 H A W (named 0) κ1 u32 .twice p1 (sliceVal (p1 .ptr) (length (p1 .now)) ∷ [])) $ split ! $
-        move ! (21 ∷ []) $
-        use1 W (‵ Own3 ⊛ ‵ Own3) (shr-slice-copy 𝓤 H A W (named 2) κ3 u8 .twice p3 (sliceVal (p3 .ptr) (length (p3 .now)) ∷ [])) $ split ! $
+        (init ! 23 refl (tt, (tt, (record { fits = room11 .0 }, tt)))) $
         move ! (22 ∷ []) $
-        use1 W (‵ Own4 ⊛ ‵ Own4) (shr-slice-copy 𝓤 H A W (named 3) κ4 u8 .twice p4 (sliceVal (p4 .ptr) (length (p4 .now)) ∷ [])) $ split ! $
+        use1 W (‵ Own1 ⊛ ‵ Own1) (shr-slice-copy 𝓤 H A W (named 0) κ1 u32 .twice p1 (sliceVal (p1 .ptr) (length (p1 .now)) ∷ [])) $ split ! $
         move ! (23 ∷ []) $
-        use1 W (‵ Own5 ⊛ ‵ Own5) (shr-slice-copy 𝓤 H A W (named 4) κ5 u16 .twice p5 (sliceVal (p5 .ptr) (length (p5 .now)) ∷ [])) $ split ! $
-        move ! (19 ∷ 18 ∷ 17 ∷ 16 ∷ 15 ∷ 14 ∷ 13 ∷ 12 ∷ 11 ∷ 6 ∷ 4 ∷ 2 ∷ 0 ∷ 24 ∷ 23 ∷ 22 ∷ 21 ∷ 20 ∷ []) $ group ! 18 $
+        use1 W (‵ Own3 ⊛ ‵ Own3) (shr-slice-copy 𝓤 H A W (named 2) κ3 u8 .twice p3 (sliceVal (p3 .ptr) (length (p3 .now)) ∷ [])) $ split ! $
+        move ! (24 ∷ []) $
+        use1 W (‵ Own4 ⊛ ‵ Own4) (shr-slice-copy 𝓤 H A W (named 3) κ4 u8 .twice p4 (sliceVal (p4 .ptr) (length (p4 .now)) ∷ [])) $ split ! $
+        move ! (25 ∷ []) $
+        use1 W (‵ Own5 ⊛ ‵ Own5) (shr-slice-copy 𝓤 H A W (named 4) κ5 i32 .twice p5 (sliceVal (p5 .ptr) (length (p5 .now)) ∷ [])) $ split ! $
+        move ! (26 ∷ []) $
+        use1 W (‵ Own6 ⊛ ‵ Own6) (shr-slice-copy 𝓤 H A W (named 5) κ6 u16 .twice p6 (sliceVal (p6 .ptr) (length (p6 .now)) ∷ [])) $ split ! $
+        move ! (22 ∷ 21 ∷ 20 ∷ 19 ∷ 18 ∷ 17 ∷ 16 ∷ 15 ∷ 14 ∷ 13 ∷ 8 ∷ 6 ∷ 4 ∷ 2 ∷ 0 ∷ 27 ∷ 26 ∷ 25 ∷ 24 ∷ 23 ∷ []) $ group ! 20 $
         use1 W (raw (Core 𝓤 H A at-mem run .pre (to-core fl))) (goes fl (respell fl wf isf)) $
-        calls-at ! fm (Core 𝓤 H A at-mem run) known (to-core fl) (and-then ! (load ! (from ! (stop !)) (look ! 52 refl))
-        (and-then ! (load ! (from ! (stop !)) (look ! 50 refl)) (and-then ! (load ! (from ! (stop !)) (look ! 30 refl))
-        (and-then ! (load ! (from ! (stop !)) (look ! 28 refl)) (and-then ! (load ! (from ! (stop !)) (look ! 46 refl))
-        (and-then ! (load ! (from ! (stop !)) (look ! 44 refl)) (and-then ! (load ! (from ! (stop !)) (look ! 42 refl))
-        (and-then ! (load ! (from ! (stop !)) (look ! 24 refl)) (and-then ! (load ! (from ! (stop !)) (look ! 20 refl))
-        (and-then ! (load ! (from ! (stop !)) (look ! 16 refl)) (and-then ! (load ! (from ! (stop !)) (look ! 12 refl))
-        (and-then ! (load ! (from ! (stop !)) (look ! 8 refl)) (no-more !))))))))))))) (λ w.
+        calls-at ! fm (Core 𝓤 H A at-mem run) known (to-core fl) (and-then ! (load ! (from ! (stop !)) (look ! 55 refl))
+        (and-then ! (load ! (from ! (stop !)) (look ! 53 refl)) (and-then ! (load ! (from ! (stop !)) (look ! 31 refl))
+        (and-then ! (load ! (from ! (stop !)) (look ! 29 refl)) (and-then ! (load ! (from ! (stop !)) (look ! 49 refl))
+        (and-then ! (load ! (from ! (stop !)) (look ! 47 refl)) (and-then ! (load ! (from ! (stop !)) (look ! 45 refl))
+        (and-then ! (load ! (from ! (stop !)) (look ! 43 refl)) (and-then ! (load ! (from ! (stop !)) (look ! 25 refl))
+        (and-then ! (load ! (from ! (stop !)) (look ! 21 refl)) (and-then ! (load ! (from ! (stop !)) (look ! 17 refl))
+        (and-then ! (load ! (from ! (stop !)) (look ! 13 refl)) (and-then ! (load ! (from ! (stop !)) (look ! 9 refl)) (no-more !))))))))))))))
+        (λ w.
         use1 W (later (some (λ (r : Judged). ((‵ (flft κ1 q1) ⊛ ‵ (flft κ3 q3) ⊛ ‵ (flft κ4 q4) ⊛ ‵ (flft κ5 q5) ⊛ ‵ (flft κ6 q6) ⊛ ‵ (flft κ7 q7) ⊛
-        ‵ (flft κ8 q8) ⊛ ‵ (flft κ9 q9) ⊛ ‵ (flft κ10 q10) ⊛ ‵ ftrue) ⊛ ‵ (Judgedᵀ.the-row .own r (w ∷ []))) ⊛ raw
+        ‵ (flft κ8 q8) ⊛ ‵ (flft κ9 q9) ⊛ ‵ (flft κ10 q10) ⊛ ‵ (flft κ11 q11) ⊛ ‵ ftrue) ⊛ ‵ (Judgedᵀ.the-row .own r (w ∷ []))) ⊛ raw
         (ensured 𝓤 H A core.ended (core.clauses 𝓤 H A at-mem run) cκs (c-args fl) tt r)))) (id⊢ 𝓤 _) $
         await ! tt $ pick ! (λ r.
         split ! $ move ! (1 ∷ []) $ use1 W (some (λ (zs : Last). ‵ (lasts core.ended cκs (c-args fl) zs) ⊛ raw (fact 𝓤 (Said fl r zs)))) (id⊢ 𝓤 _) $
         pick ! (λ zs. split ! $ move ! (1 ∷ []) $ heard ! (Said fl r zs) (λ e.
         fsplit ! $ drop ! $ fsplit ! $ drop ! $ fsplit ! $ drop ! $ fsplit ! $ drop ! $ fsplit ! $ drop ! $ fsplit ! $ drop ! $ fsplit ! $ drop ! $
-        fsplit ! $ fsplit ! $ move ! (1 ∷ []) $ feqL ! (λ l6. move ! (1 ∷ []) $ fsplit ! $ fsplit ! $ move ! (1 ∷ []) $ feqL ! (λ l7.
-        move ! (1 ∷ []) $ fsplit ! $ fsplit ! $ move ! (1 ∷ []) $ feqL ! (λ l8. move ! (1 ∷ []) $ fsplit ! $ fsplit ! $ move ! (1 ∷ []) $
-        feqL ! (λ l9. move ! (1 ∷ []) $ fsplit ! $ fsplit ! $ move ! (1 ∷ []) $ feqL ! (λ l10.
+        fsplit ! $ drop ! $ fsplit ! $ fsplit ! $ move ! (1 ∷ []) $ feqL ! (λ l7. move ! (1 ∷ []) $ fsplit ! $ fsplit ! $ move ! (1 ∷ []) $
+        feqL ! (λ l8. move ! (1 ∷ []) $ fsplit ! $ fsplit ! $ move ! (1 ∷ []) $ feqL ! (λ l9. move ! (1 ∷ []) $ fsplit ! $ fsplit ! $
+        move ! (1 ∷ []) $ feqL ! (λ l10. move ! (1 ∷ []) $ fsplit ! $ fsplit ! $ move ! (1 ∷ []) $ feqL ! (λ l11.
         move ! (6 ∷ []) $ split ! $ move ! (1 ∷ []) $ peeks ! Judgedᵀ.the-row (Is Judgedᵀ.the-row) (shows 𝓤 H A Judgedᵀ.the-row) r (w ∷ []) (λ is.
-        land ! (from ! (stop !)) (init ! 61 refl (EL.lawful Judgedᵀ.the-type Judgedᴸ.the-laws 𝓤 H A W tt .typed r _ is .0)) $
+        land ! (from ! (stop !)) (init ! 64 refl (EL.lawful Judgedᵀ.the-type Judgedᴸ.the-laws 𝓤 H A W tt .typed r _ is .0)) $
         move ! (1 ∷ []) $ split ! $ move ! (1 ∷ []) $ split ! $ move ! (1 ∷ []) $ split ! $ move ! (1 ∷ []) $ split ! $ move ! (1 ∷ []) $ split ! $
-        move ! (1 ∷ []) $ split ! $ move ! (1 ∷ []) $ split ! $ move ! (1 ∷ []) $ split ! $ move ! (1 ∷ []) $ split ! $ move ! (1 ∷ []) $
-        returns ! (look ! 70 refl) $ forget ! 24 refl $ forget ! 26 refl $ forget ! 28 refl $ forget ! 30 refl $ forget ! 32 refl $
-        forget ! 34 refl $ forget ! 36 refl $ forget ! 38 refl $ forget ! 40 refl $ forget ! 42 refl $ forget ! 44 refl $ forget ! 46 refl $
-        forget ! 48 refl $ forget ! 50 refl $ forget ! 52 refl $ forget ! 54 refl $ forget ! 56 refl $ forget ! 58 refl $ forget ! 60 refl $
-        forget ! 62 refl $ forget ! 64 refl $ forget ! 66 refl $ forget ! 68 refl $ forget ! 70 refl $
-        move ! (70 ∷ 71 ∷ []) $ free1 ! $ move ! (68 ∷ 69 ∷ []) $ free1 ! $ move ! (66 ∷ 67 ∷ []) $ free1 ! $ move ! (64 ∷ 65 ∷ []) $ free1 ! $
-        move ! (62 ∷ 63 ∷ []) $ free1 ! $ move ! (60 ∷ 61 ∷ []) $ free1 ! $ move ! (58 ∷ 59 ∷ []) $ free1 ! $ move ! (56 ∷ 57 ∷ []) $ free1 ! $
-        move ! (54 ∷ 55 ∷ []) $ free1 ! $ move ! (52 ∷ 53 ∷ []) $ free1 ! $ move ! (50 ∷ 51 ∷ []) $ free1 ! $ move ! (48 ∷ 49 ∷ []) $ free1 ! $
-        move ! (46 ∷ 47 ∷ []) $ free1 ! $ move ! (44 ∷ 45 ∷ []) $ free1 ! $ move ! (42 ∷ 43 ∷ []) $ free1 ! $ move ! (40 ∷ 41 ∷ []) $ free1 ! $
-        move ! (38 ∷ 39 ∷ []) $ free1 ! $ move ! (36 ∷ 37 ∷ []) $ free1 ! $ move ! (34 ∷ 35 ∷ []) $ free1 ! $ move ! (32 ∷ 33 ∷ []) $ free1 ! $
-        move ! (30 ∷ 31 ∷ []) $ free1 ! $ move ! (28 ∷ 29 ∷ []) $ free1 ! $ move ! (26 ∷ 27 ∷ []) $ free1 ! $ move ! (24 ∷ 25 ∷ []) $ free1 ! $
-        free0 ! $
-        keep ! (9 ∷ 21 ∷ 8 ∷ 7 ∷ 6 ∷ 5 ∷ 4 ∷ 3 ∷ 2 ∷ 1 ∷ 20 ∷ 23 ∷ 19 ∷ 18 ∷ 17 ∷ 16 ∷ 15 ∷ 14 ∷ 13 ∷ 11 ∷ 10 ∷ []) $
-        by ! (ex r w zs (e (p2 .now) ef refl) l6 l7 l8 l9 l10))))))))))))))))))))))))))))))))))))))))
+        move ! (1 ∷ []) $ split ! $ move ! (1 ∷ []) $ split ! $ move ! (1 ∷ []) $ split ! $ move ! (1 ∷ []) $ split ! $ move ! (1 ∷ []) $ split ! $
+        move ! (1 ∷ []) $
+        returns ! (look ! 74 refl) $ forget ! 26 refl $ forget ! 28 refl $ forget ! 30 refl $ forget ! 32 refl $ forget ! 34 refl $
+        forget ! 36 refl $ forget ! 38 refl $ forget ! 40 refl $ forget ! 42 refl $ forget ! 44 refl $ forget ! 46 refl $ forget ! 48 refl $
+        forget ! 50 refl $ forget ! 52 refl $ forget ! 54 refl $ forget ! 56 refl $ forget ! 58 refl $ forget ! 60 refl $ forget ! 62 refl $
+        forget ! 64 refl $ forget ! 66 refl $ forget ! 68 refl $ forget ! 70 refl $ forget ! 72 refl $ forget ! 74 refl $
+        move ! (74 ∷ 75 ∷ []) $ free1 ! $ move ! (72 ∷ 73 ∷ []) $ free1 ! $ move ! (70 ∷ 71 ∷ []) $ free1 ! $ move ! (68 ∷ 69 ∷ []) $ free1 ! $
+        move ! (66 ∷ 67 ∷ []) $ free1 ! $ move ! (64 ∷ 65 ∷ []) $ free1 ! $ move ! (62 ∷ 63 ∷ []) $ free1 ! $ move ! (60 ∷ 61 ∷ []) $ free1 ! $
+        move ! (58 ∷ 59 ∷ []) $ free1 ! $ move ! (56 ∷ 57 ∷ []) $ free1 ! $ move ! (54 ∷ 55 ∷ []) $ free1 ! $ move ! (52 ∷ 53 ∷ []) $ free1 ! $
+        move ! (50 ∷ 51 ∷ []) $ free1 ! $ move ! (48 ∷ 49 ∷ []) $ free1 ! $ move ! (46 ∷ 47 ∷ []) $ free1 ! $ move ! (44 ∷ 45 ∷ []) $ free1 ! $
+        move ! (42 ∷ 43 ∷ []) $ free1 ! $ move ! (40 ∷ 41 ∷ []) $ free1 ! $ move ! (38 ∷ 39 ∷ []) $ free1 ! $ move ! (36 ∷ 37 ∷ []) $ free1 ! $
+        move ! (34 ∷ 35 ∷ []) $ free1 ! $ move ! (32 ∷ 33 ∷ []) $ free1 ! $ move ! (30 ∷ 31 ∷ []) $ free1 ! $ move ! (28 ∷ 29 ∷ []) $ free1 ! $
+        move ! (26 ∷ 27 ∷ []) $ free1 ! $ free0 ! $
+        keep ! (10 ∷ 23 ∷ 9 ∷ 8 ∷ 7 ∷ 6 ∷ 5 ∷ 4 ∷ 3 ∷ 2 ∷ 1 ∷ 22 ∷ 25 ∷ 21 ∷ 20 ∷ 19 ∷ 18 ∷ 17 ∷ 16 ∷ 15 ∷ 14 ∷ 12 ∷ 11 ∷ []) $
+        by ! (ex r w zs (e (p2 .now) ef refl) l7 l8 l9 l10 l11)))))))))))))))))))))))))))))))))))))))))
 
 module _ {M : Type 1} (𝓤 : URA M) (H : Heap 𝓤) (A : Atoms 𝓤) (W : Given 𝓤 H A) (mem : Memory → SProp 𝓤) (run : Routine → Fun 𝓤) (𝓣 : Tables 𝓤 H)
     (known : Triple 𝓤 (𝓣 .C #core) (Core 𝓤 H A mem run)) (fknown : Triple 𝓤 (𝓣 .C #flat) (Flat 𝓤 H A mem run)) where
@@ -559,7 +588,10 @@ module _ {M : Type 1} (𝓤 : URA M) (H : Heap 𝓤) (A : Atoms 𝓤) (W : Given
         LL.vals Queryᵀ.the-type Queryᴸ.the-laws,
         (
           slice-vals,
-          (slice-vals, (slice-vals, (slice-vals, (slice-vals, (slice-vals, (slice-vals, (slice-vals, (slice-vals, (slice-vals, tt))))))))),
+          (
+            slice-vals,
+            (slice-vals, (slice-vals, (slice-vals, (slice-vals, (slice-vals, (slice-vals, (slice-vals, (slice-vals, (slice-vals, tt))))))))),
+          ),
         ),
       ))
       (λ κs. (
@@ -573,16 +605,19 @@ module _ {M : Type 1} (𝓤 : URA M) (H : Heap 𝓤) (A : Atoms 𝓤) (W : Given
               (
                 shr-slice-tells (named 3) (κs .1 .1 .1 .0) u8,
                 (
-                  shr-slice-tells (named 4) (κs .1 .1 .1 .1 .0) u16,
+                  shr-slice-tells (named 4) (κs .1 .1 .1 .1 .0) i32,
                   (
-                    mut-slice-tells (named 5) (κs .1 .1 .1 .1 .1 .0) i32,
+                    shr-slice-tells (named 5) (κs .1 .1 .1 .1 .1 .0) u16,
                     (
-                      mut-slice-tells (named 6) (κs .1 .1 .1 .1 .1 .1 .0) u8,
+                      mut-slice-tells (named 6) (κs .1 .1 .1 .1 .1 .1 .0) i32,
                       (
-                        mut-slice-tells (named 7) (κs .1 .1 .1 .1 .1 .1 .1 .0) u32,
+                        mut-slice-tells (named 7) (κs .1 .1 .1 .1 .1 .1 .1 .0) u8,
                         (
                           mut-slice-tells (named 8) (κs .1 .1 .1 .1 .1 .1 .1 .1 .0) u32,
-                          (mut-slice-tells (named 9) (κs .1 .1 .1 .1 .1 .1 .1 .1 .1 .0) u32, tt),
+                          (
+                            mut-slice-tells (named 9) (κs .1 .1 .1 .1 .1 .1 .1 .1 .1 .0) u32,
+                            (mut-slice-tells (named 10) (κs .1 .1 .1 .1 .1 .1 .1 .1 .1 .1 .0) u32, tt),
+                          ),
                         ),
                       ),
                     ),
@@ -596,32 +631,35 @@ module _ {M : Type 1} (𝓤 : URA M) (H : Heap 𝓤) (A : Atoms 𝓤) (W : Given
       (λ κs qs bounds a g are. via 𝓤 _ (fst∗ 𝓤 _ (emp 𝓤)) (walk 𝓤 H A W mem run κs qs a (are .0) (are .1 .0 .0 .1) (are .1 .1 .0 .0 .1)
       (are .1 .1 .1 .0 .0 .1) (are .1 .1 .1 .1 .0 .0 .1) (are .1 .1 .1 .1 .1 .0 .0 .1) (are .1 .1 .1 .1 .1 .1 .0 .0 .1)
       (are .1 .1 .1 .1 .1 .1 .1 .0 .0 .1) (are .1 .1 .1 .1 .1 .1 .1 .1 .0 .0 .1) (are .1 .1 .1 .1 .1 .1 .1 .1 .1 .0 .0 .1)
-      (are .1 .1 .1 .1 .1 .1 .1 .1 .1 .1 .0 .0 .1)
+      (are .1 .1 .1 .1 .1 .1 .1 .1 .1 .1 .0 .0 .1) (are .1 .1 .1 .1 .1 .1 .1 .1 .1 .1 .1 .0 .0 .1)
       (𝓣 .C) (𝓣 .Λ) (fmOf 𝓤 H (W .laws) 𝓣) known fknown _ (exits 𝓤 H A W mem run κs qs a (are .0) (are .1 .0 .0 .1) (are .1 .1 .0 .0 .1)
       (are .1 .1 .1 .0 .0 .1) (are .1 .1 .1 .1 .0 .0 .1) (are .1 .1 .1 .1 .1 .0 .0 .1) (are .1 .1 .1 .1 .1 .1 .0 .0 .1)
       (are .1 .1 .1 .1 .1 .1 .1 .0 .0 .1) (are .1 .1 .1 .1 .1 .1 .1 .1 .0 .0 .1) (are .1 .1 .1 .1 .1 .1 .1 .1 .1 .0 .0 .1)
-      (are .1 .1 .1 .1 .1 .1 .1 .1 .1 .1 .0 .0 .1))))
+      (are .1 .1 .1 .1 .1 .1 .1 .1 .1 .1 .0 .0 .1) (are .1 .1 .1 .1 .1 .1 .1 .1 .1 .1 .1 .0 .0 .1))))
 
   f-meets : Meets 𝓤 H A f.signature (WpFn 𝓤 H (𝓣 .C) (𝓣 .Λ) code.function) (f.spec 𝓤 H A mem run)
   f-meets = walk-meets 𝓤 H A f.ended stayed W (
-    goes-none 𝓤 H A W 10 (λ _. Queryᵀ.the-row) yes (λ κs x f. refl),
+    goes-none 𝓤 H A W 11 (λ _. Queryᵀ.the-row) yes (λ κs x f. refl),
     (
-      goes-none-slice 𝓤 H A W 10 (0 ∷ []) tt (plain (λ _. u32)) yes,
+      goes-none-slice 𝓤 H A W 11 (0 ∷ []) tt (plain (λ _. u32)) yes,
       (
-        goes-none-slice 𝓤 H A W 10 (1 ∷ []) tt (plain (λ _. Placementᵀ.the-row)) yes,
+        goes-none-slice 𝓤 H A W 11 (1 ∷ []) tt (plain (λ _. Placementᵀ.the-row)) yes,
         (
-          goes-none-slice 𝓤 H A W 10 (2 ∷ []) tt (plain (λ _. u8)) yes,
+          goes-none-slice 𝓤 H A W 11 (2 ∷ []) tt (plain (λ _. u8)) yes,
           (
-            goes-none-slice 𝓤 H A W 10 (3 ∷ []) tt (plain (λ _. u8)) yes,
+            goes-none-slice 𝓤 H A W 11 (3 ∷ []) tt (plain (λ _. u8)) yes,
             (
-              goes-none-slice 𝓤 H A W 10 (4 ∷ []) tt (plain (λ _. u16)) yes,
+              goes-none-slice 𝓤 H A W 11 (4 ∷ []) tt (plain (λ _. i32)) yes,
               (
-                goes-gave-slice 𝓤 H A W 10 5 tt (plain (λ _. i32)),
+                goes-none-slice 𝓤 H A W 11 (5 ∷ []) tt (plain (λ _. u16)) yes,
                 (
-                  goes-gave-slice 𝓤 H A W 10 6 tt (plain (λ _. u8)),
+                  goes-gave-slice 𝓤 H A W 11 6 tt (plain (λ _. i32)),
                   (
-                    goes-gave-slice 𝓤 H A W 10 7 tt (plain (λ _. u32)),
-                    (goes-gave-slice 𝓤 H A W 10 8 tt (plain (λ _. u32)), (goes-gave-slice 𝓤 H A W 10 9 tt (plain (λ _. u32)), tt)),
+                    goes-gave-slice 𝓤 H A W 11 7 tt (plain (λ _. u8)),
+                    (
+                      goes-gave-slice 𝓤 H A W 11 8 tt (plain (λ _. u32)),
+                      (goes-gave-slice 𝓤 H A W 11 9 tt (plain (λ _. u32)), (goes-gave-slice 𝓤 H A W 11 10 tt (plain (λ _. u32)), tt)),
+                    ),
                   ),
                 ),
               ),

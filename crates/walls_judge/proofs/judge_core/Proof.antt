@@ -3,7 +3,6 @@ use mathlib.Core.Path.{sym, _∙_, ap}
 use Prim.Native.Nat.{ℕ, _*_, min}
 use native.Mathlib.Omega.{arith}
 use lib.Seq.{length-take-le}
-use Rattle.rule_routes.specs.Edges.{eightSteps}
 use Rattle.rule_calls.specs.Areas.{workIn}
 use Rattle.walls_rows.proofs.Long.{rows-long}
 use Rattle.walls_lent.proofs.Lent.{judge-lent}
@@ -138,7 +137,7 @@ returns c =
     λ ps laid e.
     judge-lent (a .query) (a .groups .now) (a .block-base .now) (a .allow-base .now) (a .rows)
     (at-most .at-most .result) ps laid (at-most .at-most .ensures ∙ ap (λ (m : ℕ). min m 6145) e)
-    eightSteps (a .selection .now) (workIn (a .counts .now) (a .map .now) (a .queue .now) (a .predecessors .now) (a .route .now)) ∙ judge₇ (c .before) .judge .ensures
+    (a .steps .now) (a .selection .now) (workIn (a .counts .now) (a .map .now) (a .queue .now) (a .predecessors .now) (a .route .now)) ∙ judge₇ (c .before) .judge .ensures
 
 pub judge-core-spec : {M : Type 1} → statement M
 judge-core-spec =

@@ -136,7 +136,7 @@ returns c =
     let at-visited-lent = visited-lent₁₂ at-tell in
     let a = start₁₂ at-tell .args in
     let i : Inputs = inputsOf (a .query) (a .groups .now) (a .numbers .now) (a .edges .now) (a .block-base .now) (a .allow-base .now) in
-    begin-left i (a .limits) (a .rec .now) (workIn (a .counts .now) (a .map .now) (a .queue .now) (a .predecessors .now) (a .route .now))
+    begin-left (a .steps .now) i (a .limits) (a .rec .now) (workIn (a .counts .now) (a .map .now) (a .queue .now) (a .predecessors .now) (a .route .now))
     (a .lists .now) (a .visited .now) (a .layouts .now) (a .points .now) (at-visited-lent .visited-lent .result)
     (at-visited-lent .visited-lent .ensures) _ _ _ _
     (begin₁₂ at-tell .begin .ensures) (at-tell .tell .ensures .1 .1) (at-tell .tell .ensures .1 .0) (at-tell .tell .ensures .0)

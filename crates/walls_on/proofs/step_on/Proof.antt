@@ -5,7 +5,6 @@ use native.Mathlib.Omega.{arith}
 use lib.ListN.{length, take}
 use lib.Seq.{length-take-le}
 use Rattle.base_model.specs.declared.Record.{Record}
-use Rattle.rule_routes.specs.Edges.{eightSteps}
 use Rattle.rule_layouts.specs.Flat.{inputsOf}
 use Rattle.rule_layouts.specs.Inputs.{Inputs}
 use Rattle.rule_calls.specs.Areas.{Work, Store, workIn, storeIn}
@@ -156,9 +155,9 @@ returns c =
     let i : Inputs = inputsOf (a .query) (a .groups .now) (a .numbers .now) (a .edges .now) (a .block-base .now) (a .allow-base .now) in
     let w : Work = workIn (a .counts .now) (a .map .now) (a .queue .now) (a .predecessors .now) (a .route .now) in
     let s : Store = storeIn (a .lists .now) (take (at-visited-lent .visited-lent .result) (a .visited .now)) (a .layouts .now) (a .points .now) in
-    step-left i (a .limits) (a .rec .now) w (a .lists .now) (a .visited .now) (a .layouts .now) (a .points .now)
+    step-left (a .steps .now) i (a .limits) (a .rec .now) w (a .lists .now) (a .visited .now) (a .layouts .now) (a .points .now)
     (at-visited-lent .visited-lent .result) (at-visited-lent .visited-lent .ensures) (a .n) _ _ _ _
-    (ap (λ (r : Record). stepCall eightSteps i (a .limits) r (a .n) w s) (sym (record-in₁₂ at-tell .record-in .ensures)) ∙ step₁₂ at-tell .step .ensures)
+    (ap (λ (r : Record). stepCall (a .steps .now) i (a .limits) r (a .n) w s) (sym (record-in₁₂ at-tell .record-in .ensures)) ∙ step₁₂ at-tell .step .ensures)
     (at-tell .tell .ensures .1 .1) (at-tell .tell .ensures .1 .0) (at-tell .tell .ensures .0)
 
 pub step-on-spec : {M : Type 1} → statement M

@@ -45,7 +45,6 @@ use denote.Triple.Walked.{goes-none, goes-none-slice, goes-gave-slice}
 use denote.Exit.{yes}
 use denote.Signature.{plain}
 use Rattle.base_model.specs.Answers.{replyOf}
-use Rattle.rule_routes.specs.Edges.{eightSteps}
 use Rattle.rule_calls.specs.Areas.{workIn, storeIn}
 use Rattle.rule_calls.specs.Calls.{stepCall}
 use Rattle.walls_rows.specs.Rows.{rowsOf}
@@ -98,24 +97,27 @@ stayed = (
           (
             stay-none-slice (3 ∷ []) tt (plain (λ _. u8)) yes,
             (
-              stay-ref (4 ∷ []) tt (plain (λ _. Recordᵀ.the-row)),
+              stay-none-slice (4 ∷ []) tt (plain (λ _. i32)) yes,
               (
-                stay-none (λ _. u32) yes,
+                stay-ref (5 ∷ []) tt (plain (λ _. Recordᵀ.the-row)),
                 (
-                  gave-slice (5 ∷ []) tt (plain (λ _. i32)),
+                  stay-none (λ _. u32) yes,
                   (
-                    gave-slice (6 ∷ []) tt (plain (λ _. u8)),
+                    gave-slice (6 ∷ []) tt (plain (λ _. i32)),
                     (
-                      gave-slice (7 ∷ []) tt (plain (λ _. u32)),
+                      gave-slice (7 ∷ []) tt (plain (λ _. u8)),
                       (
                         gave-slice (8 ∷ []) tt (plain (λ _. u32)),
                         (
                           gave-slice (9 ∷ []) tt (plain (λ _. u32)),
                           (
-                            gave-slice (10 ∷ []) tt (plain (λ _. u16)),
+                            gave-slice (10 ∷ []) tt (plain (λ _. u32)),
                             (
                               gave-slice (11 ∷ []) tt (plain (λ _. u16)),
-                              (gave-slice (12 ∷ []) tt (plain (λ _. u16)), (gave-slice (13 ∷ []) tt (plain (λ _. u32)), tt)),
+                              (
+                                gave-slice (12 ∷ []) tt (plain (λ _. u16)),
+                                (gave-slice (13 ∷ []) tt (plain (λ _. u16)), (gave-slice (14 ∷ []) tt (plain (λ _. u32)), tt)),
+                              ),
                             ),
                           ),
                         ),
@@ -140,26 +142,28 @@ abbrev Flat : {M : Type 1} (𝓤 : URA M) (H : Heap 𝓤) (A : Atoms 𝓤) (mem 
 Flat 𝓤 H A mem run = tripleOf 𝓤 H A flat.signature (flat.spec 𝓤 H A mem run)
 
 module _ {M : Type 1} (𝓤 : URA M) (H : Heap 𝓤) (A : Atoms 𝓤) (W : Given 𝓤 H A) (at-mem : Memory → SProp 𝓤) (run : Routine → Fun 𝓤)
-    (κs : Lfts 14) (qs : Shares 14)
+    (κs : Lfts 15) (qs : Shares 15)
     (a : (Query × (Limits × (RefT (List ℕ) × (RefT (List Placement) × (RefT (List ℕ) ×
-    (RefT (List ℕ) × (RefT Record × (ℕ × (RefT (List ℤ) × (RefT (List ℕ) × (RefT (List ℕ) ×
-    (RefT (List ℕ) × (RefT (List ℕ) × (RefT (List ℕ) × (RefT (List ℕ) × (RefT (List ℕ) × (RefT (List ℕ) × Unit {0}))))))))))))))))))
+    (RefT (List ℕ) × (RefT (List ℤ) × (RefT Record × (ℕ × (RefT (List ℤ) × (RefT (List ℕ) ×
+    (RefT (List ℕ) × (RefT (List ℕ) × (RefT (List ℕ) × (RefT (List ℕ) × (RefT (List ℕ) ×
+    (RefT (List ℕ) × (RefT (List ℕ) × Unit {0})))))))))))))))))))
     (g0 : Is Queryᵀ.the-row (a .0) (LL.val Queryᵀ.the-type Queryᴸ.the-laws (a .0) ∷ []))
     (g1 : Is Limitsᵀ.the-row (a .1 .0) (LL.val Limitsᵀ.the-type Limitsᴸ.the-laws (a .1 .0) ∷ []))
     (room2 : Room u32 (length (a .1 .1 .0 .now)))
     (room3 : Room Placementᵀ.the-row (length (a .1 .1 .1 .0 .now)))
     (room4 : Room u8 (length (a .1 .1 .1 .1 .0 .now)))
     (room5 : Room u8 (length (a .1 .1 .1 .1 .1 .0 .now)))
-    (g7 : Is u32 (a .1 .1 .1 .1 .1 .1 .1 .0) (vint w32 (a .1 .1 .1 .1 .1 .1 .1 .0) ∷ []))
-    (room8 : Room i32 (length (a .1 .1 .1 .1 .1 .1 .1 .1 .0 .now)))
-    (room9 : Room u8 (length (a .1 .1 .1 .1 .1 .1 .1 .1 .1 .0 .now)))
-    (room10 : Room u32 (length (a .1 .1 .1 .1 .1 .1 .1 .1 .1 .1 .0 .now)))
+    (room6 : Room i32 (length (a .1 .1 .1 .1 .1 .1 .0 .now)))
+    (g8 : Is u32 (a .1 .1 .1 .1 .1 .1 .1 .1 .0) (vint w32 (a .1 .1 .1 .1 .1 .1 .1 .1 .0) ∷ []))
+    (room9 : Room i32 (length (a .1 .1 .1 .1 .1 .1 .1 .1 .1 .0 .now)))
+    (room10 : Room u8 (length (a .1 .1 .1 .1 .1 .1 .1 .1 .1 .1 .0 .now)))
     (room11 : Room u32 (length (a .1 .1 .1 .1 .1 .1 .1 .1 .1 .1 .1 .0 .now)))
     (room12 : Room u32 (length (a .1 .1 .1 .1 .1 .1 .1 .1 .1 .1 .1 .1 .0 .now)))
-    (room13 : Room u16 (length (a .1 .1 .1 .1 .1 .1 .1 .1 .1 .1 .1 .1 .1 .0 .now)))
+    (room13 : Room u32 (length (a .1 .1 .1 .1 .1 .1 .1 .1 .1 .1 .1 .1 .1 .0 .now)))
     (room14 : Room u16 (length (a .1 .1 .1 .1 .1 .1 .1 .1 .1 .1 .1 .1 .1 .1 .0 .now)))
     (room15 : Room u16 (length (a .1 .1 .1 .1 .1 .1 .1 .1 .1 .1 .1 .1 .1 .1 .1 .0 .now)))
-    (room16 : Room u32 (length (a .1 .1 .1 .1 .1 .1 .1 .1 .1 .1 .1 .1 .1 .1 .1 .1 .0 .now))) where
+    (room16 : Room u16 (length (a .1 .1 .1 .1 .1 .1 .1 .1 .1 .1 .1 .1 .1 .1 .1 .1 .0 .now)))
+    (room17 : Room u32 (length (a .1 .1 .1 .1 .1 .1 .1 .1 .1 .1 .1 .1 .1 .1 .1 .1 .1 .0 .now))) where
   -- the parameters, each reference with its lifetime and share
   abbrev x0 : Query
   x0 = a .0
@@ -203,7 +207,7 @@ module _ {M : Type 1} (𝓤 : URA M) (H : Heap 𝓤) (A : Atoms 𝓤) (W : Given
   abbrev q5 : Share
   q5 = qs .1 .1 .1 .0
 
-  abbrev p6 : RefT Record
+  abbrev p6 : RefT (List ℤ)
   p6 = a .1 .1 .1 .1 .1 .1 .0
 
   abbrev κ6 : Lft
@@ -212,19 +216,19 @@ module _ {M : Type 1} (𝓤 : URA M) (H : Heap 𝓤) (A : Atoms 𝓤) (W : Given
   abbrev q6 : Share
   q6 = qs .1 .1 .1 .1 .0
 
-  abbrev x7 : ℕ
-  x7 = a .1 .1 .1 .1 .1 .1 .1 .0
+  abbrev p7 : RefT Record
+  p7 = a .1 .1 .1 .1 .1 .1 .1 .0
 
-  abbrev p8 : RefT (List ℤ)
-  p8 = a .1 .1 .1 .1 .1 .1 .1 .1 .0
+  abbrev κ7 : Lft
+  κ7 = κs .1 .1 .1 .1 .1 .0
 
-  abbrev κ8 : Lft
-  κ8 = κs .1 .1 .1 .1 .1 .0
+  abbrev q7 : Share
+  q7 = qs .1 .1 .1 .1 .1 .0
 
-  abbrev q8 : Share
-  q8 = qs .1 .1 .1 .1 .1 .0
+  abbrev x8 : ℕ
+  x8 = a .1 .1 .1 .1 .1 .1 .1 .1 .0
 
-  abbrev p9 : RefT (List ℕ)
+  abbrev p9 : RefT (List ℤ)
   p9 = a .1 .1 .1 .1 .1 .1 .1 .1 .1 .0
 
   abbrev κ9 : Lft
@@ -296,9 +300,18 @@ module _ {M : Type 1} (𝓤 : URA M) (H : Heap 𝓤) (A : Atoms 𝓤) (W : Given
   abbrev q16 : Share
   q16 = qs .1 .1 .1 .1 .1 .1 .1 .1 .1 .1 .1 .1 .1 .0
 
+  abbrev p17 : RefT (List ℕ)
+  p17 = a .1 .1 .1 .1 .1 .1 .1 .1 .1 .1 .1 .1 .1 .1 .1 .1 .1 .0
+
+  abbrev κ17 : Lft
+  κ17 = κs .1 .1 .1 .1 .1 .1 .1 .1 .1 .1 .1 .1 .1 .1 .0
+
+  abbrev q17 : Share
+  q17 = qs .1 .1 .1 .1 .1 .1 .1 .1 .1 .1 .1 .1 .1 .1 .0
+
   abbrev at : (List Val × (List Val × (List Val × (List Val × (List Val × (List Val ×
       (List Val × (List Val × (List Val × (List Val × (List Val × (List Val × (List Val ×
-      (List Val × (List Val × (List Val × (List Val × Unit {0})))))))))))))))))
+      (List Val × (List Val × (List Val × (List Val × (List Val × Unit {0}))))))))))))))))))
   at = (
     LL.val Queryᵀ.the-type Queryᴸ.the-laws x0 ∷ [],
     (
@@ -312,11 +325,11 @@ module _ {M : Type 1} (𝓤 : URA M) (H : Heap 𝓤) (A : Atoms 𝓤) (W : Given
             (
               sliceVal (p5 .ptr) (length (p5 .now)) ∷ [],
               (
-                vptr (p6 .ptr .0) (p6 .ptr .1) ∷ [],
+                sliceVal (p6 .ptr) (length (p6 .now)) ∷ [],
                 (
-                  vint w32 x7 ∷ [],
+                  vptr (p7 .ptr .0) (p7 .ptr .1) ∷ [],
                   (
-                    sliceVal (p8 .ptr) (length (p8 .now)) ∷ [],
+                    vint w32 x8 ∷ [],
                     (
                       sliceVal (p9 .ptr) (length (p9 .now)) ∷ [],
                       (
@@ -329,7 +342,10 @@ module _ {M : Type 1} (𝓤 : URA M) (H : Heap 𝓤) (A : Atoms 𝓤) (W : Given
                               sliceVal (p13 .ptr) (length (p13 .now)) ∷ [],
                               (
                                 sliceVal (p14 .ptr) (length (p14 .now)) ∷ [],
-                                (sliceVal (p15 .ptr) (length (p15 .now)) ∷ [], (sliceVal (p16 .ptr) (length (p16 .now)) ∷ [], tt)),
+                                (
+                                  sliceVal (p15 .ptr) (length (p15 .now)) ∷ [],
+                                  (sliceVal (p16 .ptr) (length (p16 .now)) ∷ [], (sliceVal (p17 .ptr) (length (p17 .now)) ∷ [], tt)),
+                                ),
                               ),
                             ),
                           ),
@@ -349,10 +365,11 @@ module _ {M : Type 1} (𝓤 : URA M) (H : Heap 𝓤) (A : Atoms 𝓤) (W : Given
   abbrev values : List Val
   values =
       LL.val Queryᵀ.the-type Queryᴸ.the-laws x0 ∷ LL.val Limitsᵀ.the-type Limitsᴸ.the-laws x1 ∷ sliceVal (p2 .ptr) (length (p2 .now)) ∷ sliceVal
-      (p3 .ptr) (length (p3 .now)) ∷ sliceVal (p4 .ptr) (length (p4 .now)) ∷ sliceVal (p5 .ptr) (length (p5 .now)) ∷ vptr (p6 .ptr .0) (p6 .ptr .1)
-      ∷ vint w32 x7 ∷ sliceVal (p8 .ptr) (length (p8 .now)) ∷ sliceVal (p9 .ptr) (length (p9 .now)) ∷ sliceVal (p10 .ptr) (length (p10 .now)) ∷
-      sliceVal (p11 .ptr) (length (p11 .now)) ∷ sliceVal (p12 .ptr) (length (p12 .now)) ∷ sliceVal (p13 .ptr) (length (p13 .now)) ∷ sliceVal
-      (p14 .ptr) (length (p14 .now)) ∷ sliceVal (p15 .ptr) (length (p15 .now)) ∷ sliceVal (p16 .ptr) (length (p16 .now)) ∷ []
+      (p3 .ptr) (length (p3 .now)) ∷ sliceVal (p4 .ptr) (length (p4 .now)) ∷ sliceVal (p5 .ptr) (length (p5 .now)) ∷ sliceVal (p6 .ptr)
+      (length (p6 .now)) ∷ vptr (p7 .ptr .0) (p7 .ptr .1) ∷ vint w32 x8 ∷ sliceVal (p9 .ptr) (length (p9 .now)) ∷ sliceVal (p10 .ptr)
+      (length (p10 .now)) ∷ sliceVal (p11 .ptr) (length (p11 .now)) ∷ sliceVal (p12 .ptr) (length (p12 .now)) ∷ sliceVal (p13 .ptr)
+      (length (p13 .now)) ∷ sliceVal (p14 .ptr) (length (p14 .now)) ∷ sliceVal (p15 .ptr) (length (p15 .now)) ∷ sliceVal (p16 .ptr)
+      (length (p16 .now)) ∷ sliceVal (p17 .ptr) (length (p17 .now)) ∷ []
 
   abbrev Own2 : Fml
   Own2 = (ShrSlice (named 0) κ2 u32) .own p2 (sliceVal (p2 .ptr) (length (p2 .now)) ∷ [])
@@ -363,6 +380,9 @@ module _ {M : Type 1} (𝓤 : URA M) (H : Heap 𝓤) (A : Atoms 𝓤) (W : Given
   abbrev Own5 : Fml
   Own5 = (ShrSlice (named 3) κ5 u8) .own p5 (sliceVal (p5 .ptr) (length (p5 .now)) ∷ [])
 
+  abbrev Own6 : Fml
+  Own6 = (ShrSlice (named 4) κ6 i32) .own p6 (sliceVal (p6 .ptr) (length (p6 .now)) ∷ [])
+
   abbrev Own3 : Fml
   Own3 = (ShrSlice (named 1) κ3 Placementᵀ.the-row) .own p3 (sliceVal (p3 .ptr) (length (p3 .now)) ∷ [])
 
@@ -370,19 +390,23 @@ module _ {M : Type 1} (𝓤 : URA M) (H : Heap 𝓤) (A : Atoms 𝓤) (W : Given
   Post = walkOf 𝓤 H A f.ended stayed (f.clauses 𝓤 H A at-mem run) .post ((κs, qs, tt, a, at), tt)
 
   abbrev c-args : Rows → (Query × (Limits × (RefT (List ℕ) × (Rows × (ℕ × (RefT (List ℕ) ×
-      (RefT (List ℕ) × (Record × (ℕ × (RefT (List ℤ) × (RefT (List ℕ) × (RefT (List ℕ) ×
-      (RefT (List ℕ) × (RefT (List ℕ) × (RefT (List ℕ) × (RefT (List ℕ) × (RefT (List ℕ) × (RefT (List ℕ) × Unit {0}))))))))))))))))))
-  c-args fl = (x0, (x1, (p2, (fl, (length (p3 .now), (p4, (p5, (p6 .now, (x7, (p8, (p9, (p10, (p11, (p12, (p13, (p14, (p15, (p16, tt))))))))))))))))))
+      (RefT (List ℕ) × (RefT (List ℤ) × (Record × (ℕ × (RefT (List ℤ) × (RefT (List ℕ) ×
+      (RefT (List ℕ) × (RefT (List ℕ) × (RefT (List ℕ) × (RefT (List ℕ) × (RefT (List ℕ) ×
+      (RefT (List ℕ) × (RefT (List ℕ) × Unit {0})))))))))))))))))))
+  c-args fl = (
+    x0,
+    (x1, (p2, (fl, (length (p3 .now), (p4, (p5, (p6, (p7 .now, (x8, (p9, (p10, (p11, (p12, (p13, (p14, (p15, (p16, (p17, tt)))))))))))))))))),
+  )
 
   -- what the core's triple binds outside: each borrow at its own lifetime and share
-  abbrev cκs : Lfts 12
-  cκs = (κ2, (κ4, (κ5, (κ8, (κ9, (κ10, (κ11, (κ12, (κ13, (κ14, (κ15, (κ16, tt))))))))))))
+  abbrev cκs : Lfts 13
+  cκs = (κ2, (κ4, (κ5, (κ6, (κ9, (κ10, (κ11, (κ12, (κ13, (κ14, (κ15, (κ16, (κ17, tt)))))))))))))
 
   abbrev to-core : Rows → Core 𝓤 H A at-mem run .Ghost
   to-core fl = (
     (
       cκs,
-      (q2, (q4, (q5, (q8, (q9, (q10, (q11, (q12, (q13, (q14, (q15, (q16, tt)))))))))))),
+      (q2, (q4, (q5, (q6, (q9, (q10, (q11, (q12, (q13, (q14, (q15, (q16, (q17, tt))))))))))))),
       tt,
       c-args fl,
       (
@@ -400,11 +424,11 @@ module _ {M : Type 1} (𝓤 : URA M) (H : Heap 𝓤) (A : Atoms 𝓤) (W : Given
                   (
                     sliceVal (p5 .ptr) (length (p5 .now)) ∷ [],
                     (
-                      LL.val Recordᵀ.the-type Recordᴸ.the-laws (p6 .now) ∷ [],
+                      sliceVal (p6 .ptr) (length (p6 .now)) ∷ [],
                       (
-                        vint w32 x7 ∷ [],
+                        LL.val Recordᵀ.the-type Recordᴸ.the-laws (p7 .now) ∷ [],
                         (
-                          sliceVal (p8 .ptr) (length (p8 .now)) ∷ [],
+                          vint w32 x8 ∷ [],
                           (
                             sliceVal (p9 .ptr) (length (p9 .now)) ∷ [],
                             (
@@ -417,7 +441,10 @@ module _ {M : Type 1} (𝓤 : URA M) (H : Heap 𝓤) (A : Atoms 𝓤) (W : Given
                                     sliceVal (p13 .ptr) (length (p13 .now)) ∷ [],
                                     (
                                       sliceVal (p14 .ptr) (length (p14 .now)) ∷ [],
-                                      (sliceVal (p15 .ptr) (length (p15 .now)) ∷ [], (sliceVal (p16 .ptr) (length (p16 .now)) ∷ [], tt)),
+                                      (
+                                        sliceVal (p15 .ptr) (length (p15 .now)) ∷ [],
+                                        (sliceVal (p16 .ptr) (length (p16 .now)) ∷ [], (sliceVal (p17 .ptr) (length (p17 .now)) ∷ [], tt)),
+                                      ),
                                     ),
                                   ),
                                 ),
@@ -453,30 +480,31 @@ module _ {M : Type 1} (𝓤 : URA M) (H : Heap 𝓤) (A : Atoms 𝓤) (W : Given
 
   abbrev Lent : List (Item 𝓤)
   Lent =
-      ‵ (flft κ2 q2) ∷ ‵ (flft κ4 q4) ∷ ‵ (flft κ5 q5) ∷ ‵ (flft κ8 q8) ∷ ‵ (flft κ9 q9) ∷ ‵ (flft κ10 q10) ∷ ‵ (flft κ11 q11) ∷ ‵ (flft κ12 q12) ∷
-      ‵ (flft κ13 q13) ∷ ‵ (flft κ14 q14) ∷ ‵ (flft κ15 q15) ∷ ‵ (flft κ16 q16) ∷ ‵ Own2 ∷ ‵ Own4 ∷ ‵ Own5 ∷ ‵
-      ((MutSlice (named 5) κ8 i32) .own p8 (sliceVal (p8 .ptr) (length (p8 .now)) ∷ [])) ∷ ‵
-      ((MutSlice (named 6) κ9 u8) .own p9 (sliceVal (p9 .ptr) (length (p9 .now)) ∷ [])) ∷ ‵
-      ((MutSlice (named 7) κ10 u32) .own p10 (sliceVal (p10 .ptr) (length (p10 .now)) ∷ [])) ∷ ‵
+      ‵ (flft κ2 q2) ∷ ‵ (flft κ4 q4) ∷ ‵ (flft κ5 q5) ∷ ‵ (flft κ6 q6) ∷ ‵ (flft κ9 q9) ∷ ‵ (flft κ10 q10) ∷ ‵ (flft κ11 q11) ∷ ‵ (flft κ12 q12) ∷
+      ‵ (flft κ13 q13) ∷ ‵ (flft κ14 q14) ∷ ‵ (flft κ15 q15) ∷ ‵ (flft κ16 q16) ∷ ‵ (flft κ17 q17) ∷ ‵ Own2 ∷ ‵ Own4 ∷ ‵ Own5 ∷ ‵ Own6 ∷ ‵
+      ((MutSlice (named 6) κ9 i32) .own p9 (sliceVal (p9 .ptr) (length (p9 .now)) ∷ [])) ∷ ‵
+      ((MutSlice (named 7) κ10 u8) .own p10 (sliceVal (p10 .ptr) (length (p10 .now)) ∷ [])) ∷ ‵
       ((MutSlice (named 8) κ11 u32) .own p11 (sliceVal (p11 .ptr) (length (p11 .now)) ∷ [])) ∷ ‵
       ((MutSlice (named 9) κ12 u32) .own p12 (sliceVal (p12 .ptr) (length (p12 .now)) ∷ [])) ∷ ‵
-      ((MutSlice (named 10) κ13 u16) .own p13 (sliceVal (p13 .ptr) (length (p13 .now)) ∷ [])) ∷ ‵
+      ((MutSlice (named 10) κ13 u32) .own p13 (sliceVal (p13 .ptr) (length (p13 .now)) ∷ [])) ∷ ‵
       ((MutSlice (named 11) κ14 u16) .own p14 (sliceVal (p14 .ptr) (length (p14 .now)) ∷ [])) ∷ ‵
       ((MutSlice (named 12) κ15 u16) .own p15 (sliceVal (p15 .ptr) (length (p15 .now)) ∷ [])) ∷ ‵
-      ((MutSlice (named 13) κ16 u32) .own p16 (sliceVal (p16 .ptr) (length (p16 .now)) ∷ [])) ∷ []
+      ((MutSlice (named 13) κ16 u16) .own p16 (sliceVal (p16 .ptr) (length (p16 .now)) ∷ [])) ∷ ‵
+      ((MutSlice (named 14) κ17 u32) .own p17 (sliceVal (p17 .ptr) (length (p17 .now)) ∷ [])) ∷ []
 
-  goes : (fl : Rows) → Is Rowsᵀ.the-row fl (LL.val Rowsᵀ.the-type Rowsᴸ.the-laws fl ∷ []) → Is Recordᵀ.the-row (p6 .now)
-      (LL.val Recordᵀ.the-type Recordᴸ.the-laws (p6 .now) ∷ []) → ent 𝓤 (⋆ 𝓤 H A Lent) (Core 𝓤 H A at-mem run .pre (to-core fl))
+  goes : (fl : Rows) → Is Rowsᵀ.the-row fl (LL.val Rowsᵀ.the-type Rowsᴸ.the-laws fl ∷ []) → Is Recordᵀ.the-row (p7 .now)
+      (LL.val Recordᵀ.the-type Recordᴸ.the-laws (p7 .now) ∷ []) → ent 𝓤 (⋆ 𝓤 H A Lent) (Core 𝓤 H A at-mem run .pre (to-core fl))
   goes fl gf gh =
       qed W Lent ∵
-      nothing ! $ move ! (12 ∷ 0 ∷ []) $ join ! $ move ! (11 ∷ 0 ∷ []) $ join ! $ move ! (10 ∷ 0 ∷ []) $ join ! $ move ! (9 ∷ 0 ∷ []) $ join ! $
-      move ! (8 ∷ 0 ∷ []) $ join ! $ move ! (7 ∷ 0 ∷ []) $ join ! $ move ! (6 ∷ 0 ∷ []) $ join ! $ move ! (5 ∷ 0 ∷ []) $ join ! $
-      move ! (4 ∷ 0 ∷ []) $ join ! $ move ! (3 ∷ 0 ∷ []) $ join ! $ move ! (2 ∷ 0 ∷ []) $ join ! $ move ! (1 ∷ 0 ∷ []) $ join ! $
-      nothing ! $ move ! (13 ∷ 0 ∷ []) $ fjoin ! $ move ! (12 ∷ 0 ∷ []) $ fjoin ! $ move ! (11 ∷ 0 ∷ []) $ fjoin ! $ move ! (10 ∷ 0 ∷ []) $
-      fjoin ! $ move ! (9 ∷ 0 ∷ []) $ fjoin ! $ move ! (8 ∷ 0 ∷ []) $ fjoin ! $ move ! (7 ∷ 0 ∷ []) $ fjoin ! $ move ! (6 ∷ 0 ∷ []) $ fjoin ! $
-      move ! (5 ∷ 0 ∷ []) $ fjoin ! $ owned ! u32 (Is u32) (uint-makes 𝓤 H A W w32) x7 _ g7 $ fjoin ! $
-      owned ! Recordᵀ.the-row (Is Recordᵀ.the-row) (LL.makes Recordᵀ.the-type Recordᴸ.the-plain 𝓤 H A) (p6 .now) _ gh $ fjoin ! $
-      move ! (4 ∷ 0 ∷ []) $ fjoin ! $ move ! (3 ∷ 0 ∷ []) $ fjoin ! $
+      nothing ! $ move ! (13 ∷ 0 ∷ []) $ join ! $ move ! (12 ∷ 0 ∷ []) $ join ! $ move ! (11 ∷ 0 ∷ []) $ join ! $ move ! (10 ∷ 0 ∷ []) $ join ! $
+      move ! (9 ∷ 0 ∷ []) $ join ! $ move ! (8 ∷ 0 ∷ []) $ join ! $ move ! (7 ∷ 0 ∷ []) $ join ! $ move ! (6 ∷ 0 ∷ []) $ join ! $
+      move ! (5 ∷ 0 ∷ []) $ join ! $ move ! (4 ∷ 0 ∷ []) $ join ! $ move ! (3 ∷ 0 ∷ []) $ join ! $ move ! (2 ∷ 0 ∷ []) $ join ! $
+      move ! (1 ∷ 0 ∷ []) $ join ! $
+      nothing ! $ move ! (14 ∷ 0 ∷ []) $ fjoin ! $ move ! (13 ∷ 0 ∷ []) $ fjoin ! $ move ! (12 ∷ 0 ∷ []) $ fjoin ! $ move ! (11 ∷ 0 ∷ []) $
+      fjoin ! $ move ! (10 ∷ 0 ∷ []) $ fjoin ! $ move ! (9 ∷ 0 ∷ []) $ fjoin ! $ move ! (8 ∷ 0 ∷ []) $ fjoin ! $ move ! (7 ∷ 0 ∷ []) $ fjoin ! $
+      move ! (6 ∷ 0 ∷ []) $ fjoin ! $ owned ! u32 (Is u32) (uint-makes 𝓤 H A W w32) x8 _ g8 $ fjoin ! $
+      owned ! Recordᵀ.the-row (Is Recordᵀ.the-row) (LL.makes Recordᵀ.the-type Recordᴸ.the-plain 𝓤 H A) (p7 .now) _ gh $ fjoin ! $
+      move ! (5 ∷ 0 ∷ []) $ fjoin ! $ move ! (4 ∷ 0 ∷ []) $ fjoin ! $ move ! (3 ∷ 0 ∷ []) $ fjoin ! $
       owned ! usize (Is usize) (uint-makes 𝓤 H A W w64) (length (p3 .now)) _ (refl, room3 .0) $ fjoin ! $
       owned ! Rowsᵀ.the-row (Is Rowsᵀ.the-row) (LL.makes Rowsᵀ.the-type Rowsᴸ.the-plain 𝓤 H A) fl _ gf $ fjoin ! $ move ! (2 ∷ 0 ∷ []) $ fjoin ! $
       owned ! Limitsᵀ.the-row (Is Limitsᵀ.the-row) (LL.makes Limitsᵀ.the-type Limitsᴸ.the-plain 𝓤 H A) x1 _ g1 $ fjoin ! $
@@ -488,12 +516,10 @@ module _ {M : Type 1} (𝓤 : URA M) (H : Heap 𝓤) (A : Atoms 𝓤) (W : Given
   abbrev Last : Type 0
   Last =
       (Unit {0} × (Unit {0} × (Unit {0} × (Unit {0} × (Unit {0} × (Unit {0} × (Unit {0} ×
-      (Unit {0} × (Unit {0} × (List ℤ × (List ℕ × (List ℕ × (List ℕ × (List ℕ × (List ℕ × (List ℕ × (List ℕ × (List ℕ × Unit {0}))))))))))))))))))
+      (Unit {0} × (Unit {0} × (Unit {0} × (List ℤ × (List ℕ × (List ℕ × (List ℕ ×
+      (List ℕ × (List ℕ × (List ℕ × (List ℕ × (List ℕ × Unit {0})))))))))))))))))))
 
-  abbrev z8 : Last → List ℤ
-  z8 zs = zs .1 .1 .1 .1 .1 .1 .1 .1 .1 .0
-
-  abbrev z9 : Last → List ℕ
+  abbrev z9 : Last → List ℤ
   z9 zs = zs .1 .1 .1 .1 .1 .1 .1 .1 .1 .1 .0
 
   abbrev z10 : Last → List ℕ
@@ -517,70 +543,74 @@ module _ {M : Type 1} (𝓤 : URA M) (H : Heap 𝓤) (A : Atoms 𝓤) (W : Given
   abbrev z16 : Last → List ℕ
   z16 zs = zs .1 .1 .1 .1 .1 .1 .1 .1 .1 .1 .1 .1 .1 .1 .1 .1 .1 .0
 
+  abbrev z17 : Last → List ℕ
+  z17 zs = zs .1 .1 .1 .1 .1 .1 .1 .1 .1 .1 .1 .1 .1 .1 .1 .1 .1 .1 .0
+
   abbrev Said : Rows → Reply → Last → Type 0
   Said fl r zs =
       (ps : List Placement) → fl ≡ rowsOf ps → (length (p3 .now)) ≡ length ps
-      → stepCall eightSteps
+      → stepCall (p6 .now)
       (given x0 (p2 .now) ps (p4 .now) (p5 .now))
-      x1 (p6 .now) x7
-      (workIn (p8 .now) (p9 .now) (p10 .now) (p11 .now) (p12 .now))
-      (storeIn (p13 .now) (p14 .now) (p15 .now) (p16 .now))
+      x1 (p7 .now) x8
+      (workIn (p9 .now) (p10 .now) (p11 .now) (p12 .now) (p13 .now))
+      (storeIn (p14 .now) (p15 .now) (p16 .now) (p17 .now))
       ≡ record {
         answer = replyOf (r .answer);
         rec = r .rec;
-        work = workIn (z8 zs) (z9 zs) (z10 zs) (z11 zs) (z12 zs);
-        store = storeIn (z13 zs) (z14 zs) (z15 zs) (z16 zs);
+        work = workIn (z9 zs) (z10 zs) (z11 zs) (z12 zs) (z13 zs);
+        store = storeIn (z14 zs) (z15 zs) (z16 zs) (z17 zs);
       }
 
   abbrev Told : Reply → Last → Type 0
   Told r zs =
-      stepCall eightSteps
+      stepCall (p6 .now)
       (given x0 (p2 .now) (p3 .now) (p4 .now) (p5 .now))
-      x1 (p6 .now) x7
-      (workIn (p8 .now) (p9 .now) (p10 .now) (p11 .now) (p12 .now))
-      (storeIn (p13 .now) (p14 .now) (p15 .now) (p16 .now))
+      x1 (p7 .now) x8
+      (workIn (p9 .now) (p10 .now) (p11 .now) (p12 .now) (p13 .now))
+      (storeIn (p14 .now) (p15 .now) (p16 .now) (p17 .now))
       ≡ record {
         answer = replyOf (r .answer);
         rec = r .rec;
-        work = workIn (z8 zs) (z9 zs) (z10 zs) (z11 zs) (z12 zs);
-        store = storeIn (z13 zs) (z14 zs) (z15 zs) (z16 zs);
+        work = workIn (z9 zs) (z10 zs) (z11 zs) (z12 zs) (z13 zs);
+        store = storeIn (z14 zs) (z15 zs) (z16 zs) (z17 zs);
       }
 
   abbrev Left : (r : Reply) → Last → List (Item 𝓤)
   Left r zs =
-      ‵ (fobs (p6 .name) (Recordᵀ.the-row .coded .code (r .rec))) ∷ ‵ (fbor κ6 (Body (mem Recordᵀ.the-row) (p6 .ptr .0) (p6 .ptr .1) (p6 .name))) ∷
-      ‵ (flft κ2 q2) ∷ ‵ (flft κ3 q3) ∷ ‵ (flft κ4 q4) ∷ ‵ (flft κ5 q5) ∷ ‵ (flft κ6 q6) ∷ ‵ (flft κ8 q8) ∷ ‵ (flft κ9 q9) ∷ ‵ (flft κ10 q10) ∷ ‵
-      (flft κ11 q11) ∷ ‵ (flft κ12 q12) ∷ ‵ (flft κ13 q13) ∷ ‵ (flft κ14 q14) ∷ ‵ (flft κ15 q15) ∷ ‵ (flft κ16 q16) ∷ ‵ Own2 ∷ ‵ Own3 ∷ ‵ Own4 ∷ ‵
-      Own5 ∷ ‵ (finally i32 (p8 .name) (z8 zs)) ∷ ‵ (finally u8 (p9 .name) (z9 zs)) ∷ ‵ (finally u32 (p10 .name) (z10 zs)) ∷ ‵
-      (finally u32 (p11 .name) (z11 zs)) ∷ ‵ (finally u32 (p12 .name) (z12 zs)) ∷ ‵ (finally u16 (p13 .name) (z13 zs)) ∷ ‵
-      (finally u16 (p14 .name) (z14 zs)) ∷ ‵ (finally u16 (p15 .name) (z15 zs)) ∷ ‵ (finally u32 (p16 .name) (z16 zs)) ∷ []
+      ‵ (fobs (p7 .name) (Recordᵀ.the-row .coded .code (r .rec))) ∷ ‵ (fbor κ7 (Body (mem Recordᵀ.the-row) (p7 .ptr .0) (p7 .ptr .1) (p7 .name))) ∷
+      ‵ (flft κ2 q2) ∷ ‵ (flft κ3 q3) ∷ ‵ (flft κ4 q4) ∷ ‵ (flft κ5 q5) ∷ ‵ (flft κ6 q6) ∷ ‵ (flft κ7 q7) ∷ ‵ (flft κ9 q9) ∷ ‵ (flft κ10 q10) ∷ ‵
+      (flft κ11 q11) ∷ ‵ (flft κ12 q12) ∷ ‵ (flft κ13 q13) ∷ ‵ (flft κ14 q14) ∷ ‵ (flft κ15 q15) ∷ ‵ (flft κ16 q16) ∷ ‵ (flft κ17 q17) ∷ ‵ Own2 ∷ ‵
+      Own3 ∷ ‵ Own4 ∷ ‵ Own5 ∷ ‵ Own6 ∷ ‵ (finally i32 (p9 .name) (z9 zs)) ∷ ‵ (finally u8 (p10 .name) (z10 zs)) ∷ ‵
+      (finally u32 (p11 .name) (z11 zs)) ∷ ‵ (finally u32 (p12 .name) (z12 zs)) ∷ ‵ (finally u32 (p13 .name) (z13 zs)) ∷ ‵
+      (finally u16 (p14 .name) (z14 zs)) ∷ ‵ (finally u16 (p15 .name) (z15 zs)) ∷ ‵ (finally u16 (p16 .name) (z16 zs)) ∷ ‵
+      (finally u32 (p17 .name) (z17 zs)) ∷ []
 
   -- what the exit needs to show of a postcondition K
   abbrev Ex : (Val → SProp 𝓤) → Type 1
   Ex K =
       (r : Reply) (zs : Last) → Told r zs → Is Answerᵀ.the-row (r .answer) (EL.val Answerᵀ.the-type Answerᴸ.the-laws (r .answer) ∷ []) → length
-      (z8 zs) ≡ length (p8 .now) → length (z9 zs) ≡ length (p9 .now) → length (z10 zs) ≡ length (p10 .now) → length (z11 zs) ≡ length (p11 .now) →
-      length (z12 zs) ≡ length (p12 .now) → length (z13 zs) ≡ length (p13 .now) → length (z14 zs) ≡ length (p14 .now) → length (z15 zs) ≡ length
-      (p15 .now) → length (z16 zs) ≡ length (p16 .now) → ent 𝓤 (⋆ 𝓤 H A (Left r zs)) (K (EL.val Answerᵀ.the-type Answerᴸ.the-laws (r .answer)))
+      (z9 zs) ≡ length (p9 .now) → length (z10 zs) ≡ length (p10 .now) → length (z11 zs) ≡ length (p11 .now) → length (z12 zs) ≡ length (p12 .now) →
+      length (z13 zs) ≡ length (p13 .now) → length (z14 zs) ≡ length (p14 .now) → length (z15 zs) ≡ length (p15 .now) → length (z16 zs) ≡ length
+      (p16 .now) → length (z17 zs) ≡ length (p17 .now) → ent 𝓤 (⋆ 𝓤 H A (Left r zs)) (K (EL.val Answerᵀ.the-type Answerᴸ.the-laws (r .answer)))
 
   exits : Ex Post
-  exits r zs e gr l8 l9 l10 l11 l12 l13 l14 l15 l16 =
+  exits r zs e gr l9 l10 l11 l12 l13 l14 l15 l16 l17 =
       qed W (Left r zs) ∵
       suffices ! _ (ends-at 𝓤 H A f.ended stayed (f.clauses 𝓤 H A at-mem run) W ((κs, qs, tt, a, at), tt)
       (EL.val Answerᵀ.the-type Answerᴸ.the-laws (r .answer)) (r .answer)
-      (tt, (tt, (tt, (tt, (tt, (tt, (r .rec, (tt, (z8 zs, (z9 zs, (z10 zs, (z11 zs, (z12 zs, (z13 zs, (z14 zs, (z15 zs, (z16 zs, tt)))))))))))))))))
-      (tt, (tt, (tt, (tt, (tt, (tt, (tt, (tt, (l8, (l9, (l10, (l11, (l12, (l13, (l14, (l15, (l16, tt)))))))))))))))))) $ says ! e $
-      nothing ! $ move ! (16 ∷ 0 ∷ []) $ join ! $ move ! (15 ∷ 0 ∷ []) $ join ! $ move ! (14 ∷ 0 ∷ []) $ join ! $ move ! (13 ∷ 0 ∷ []) $ join ! $
-      move ! (12 ∷ 0 ∷ []) $ join ! $ move ! (11 ∷ 0 ∷ []) $ join ! $ move ! (10 ∷ 0 ∷ []) $ join ! $ move ! (9 ∷ 0 ∷ []) $ join ! $
-      move ! (8 ∷ 0 ∷ []) $ join ! $ move ! (7 ∷ 0 ∷ []) $ join ! $ move ! (6 ∷ 0 ∷ []) $ join ! $ move ! (5 ∷ 0 ∷ []) $ join ! $
-      move ! (4 ∷ 0 ∷ []) $ join ! $ move ! (3 ∷ 0 ∷ []) $ join ! $ frame ! $
-      nothing ! $ move ! (15 ∷ 0 ∷ []) $ fjoin ! $ move ! (14 ∷ 0 ∷ []) $ fjoin ! $ move ! (13 ∷ 0 ∷ []) $ fjoin ! $ move ! (12 ∷ 0 ∷ []) $
-      fjoin ! $ move ! (11 ∷ 0 ∷ []) $ fjoin ! $ move ! (10 ∷ 0 ∷ []) $ fjoin ! $ move ! (9 ∷ 0 ∷ []) $ fjoin ! $ move ! (8 ∷ 0 ∷ []) $ fjoin ! $
-      move ! (7 ∷ 0 ∷ []) $ fjoin ! $ owned ! u32 (Is u32) (uint-makes 𝓤 H A W w32) x7 _ g7 $ fjoin ! $ move ! (1 ∷ 2 ∷ 0 ∷ []) $
-      feqI ! (List Val) (vptr (p6 .ptr .0) (p6 .ptr .1) ∷ []) (vptr (p6 .ptr .0) (p6 .ptr .1) ∷ []) refl $ fjoin3 ! $ fjoin ! $
-      move ! (4 ∷ 0 ∷ []) $ fjoin ! $ move ! (3 ∷ 0 ∷ []) $ fjoin ! $ move ! (2 ∷ 0 ∷ []) $ fjoin ! $ move ! (1 ∷ 0 ∷ []) $ fjoin ! $
-      owned ! Limitsᵀ.the-row (Is Limitsᵀ.the-row) (LL.makes Limitsᵀ.the-type Limitsᴸ.the-plain 𝓤 H A) x1 _ g1 $ fjoin ! $
-      owned ! Queryᵀ.the-row (Is Queryᵀ.the-row) (LL.makes Queryᵀ.the-type Queryᴸ.the-plain 𝓤 H A) x0 _ g0 $ fjoin ! $
+      (tt, (tt, (tt, (tt, (tt, (tt, (tt, (r .rec, (tt, (z9 zs, (z10 zs, (z11 zs, (z12 zs, (z13 zs, (z14 zs, (z15 zs, (z16 zs, (z17 zs, tt))))))))))))))))))
+      (tt, (tt, (tt, (tt, (tt, (tt, (tt, (tt, (tt, (l9, (l10, (l11, (l12, (l13, (l14, (l15, (l16, (l17, tt))))))))))))))))))) $ says ! e $
+      nothing ! $ move ! (17 ∷ 0 ∷ []) $ join ! $ move ! (16 ∷ 0 ∷ []) $ join ! $ move ! (15 ∷ 0 ∷ []) $ join ! $ move ! (14 ∷ 0 ∷ []) $ join ! $
+      move ! (13 ∷ 0 ∷ []) $ join ! $ move ! (12 ∷ 0 ∷ []) $ join ! $ move ! (11 ∷ 0 ∷ []) $ join ! $ move ! (10 ∷ 0 ∷ []) $ join ! $
+      move ! (9 ∷ 0 ∷ []) $ join ! $ move ! (8 ∷ 0 ∷ []) $ join ! $ move ! (7 ∷ 0 ∷ []) $ join ! $ move ! (6 ∷ 0 ∷ []) $ join ! $
+      move ! (5 ∷ 0 ∷ []) $ join ! $ move ! (4 ∷ 0 ∷ []) $ join ! $ move ! (3 ∷ 0 ∷ []) $ join ! $ frame ! $
+      nothing ! $ move ! (16 ∷ 0 ∷ []) $ fjoin ! $ move ! (15 ∷ 0 ∷ []) $ fjoin ! $ move ! (14 ∷ 0 ∷ []) $ fjoin ! $ move ! (13 ∷ 0 ∷ []) $
+      fjoin ! $ move ! (12 ∷ 0 ∷ []) $ fjoin ! $ move ! (11 ∷ 0 ∷ []) $ fjoin ! $ move ! (10 ∷ 0 ∷ []) $ fjoin ! $ move ! (9 ∷ 0 ∷ []) $ fjoin ! $
+      move ! (8 ∷ 0 ∷ []) $ fjoin ! $ owned ! u32 (Is u32) (uint-makes 𝓤 H A W w32) x8 _ g8 $ fjoin ! $ move ! (1 ∷ 2 ∷ 0 ∷ []) $
+      feqI ! (List Val) (vptr (p7 .ptr .0) (p7 .ptr .1) ∷ []) (vptr (p7 .ptr .0) (p7 .ptr .1) ∷ []) refl $ fjoin3 ! $ fjoin ! $
+      move ! (5 ∷ 0 ∷ []) $ fjoin ! $ move ! (4 ∷ 0 ∷ []) $ fjoin ! $ move ! (3 ∷ 0 ∷ []) $ fjoin ! $ move ! (2 ∷ 0 ∷ []) $ fjoin ! $
+      move ! (1 ∷ 0 ∷ []) $ fjoin ! $ owned ! Limitsᵀ.the-row (Is Limitsᵀ.the-row) (LL.makes Limitsᵀ.the-type Limitsᴸ.the-plain 𝓤 H A) x1 _ g1 $
+      fjoin ! $ owned ! Queryᵀ.the-row (Is Queryᵀ.the-row) (LL.makes Queryᵀ.the-type Queryᴸ.the-plain 𝓤 H A) x0 _ g0 $ fjoin ! $
       owned ! Answerᵀ.the-row (Is Answerᵀ.the-row) (EL.makes Answerᵀ.the-type Answerᴸ.the-plain 𝓤 H A) (r .answer) _ gr $ move ! (1 ∷ 0 ∷ []) $
       done !
 
@@ -593,47 +623,50 @@ module _ {M : Type 1} (𝓤 : URA M) (H : Heap 𝓤) (A : Atoms 𝓤) (W : Given
       (fknown : Triple 𝓤 (C #flat) (Flat 𝓤 H A at-mem run)) (K : Val → SProp 𝓤) (ex : Ex K) where
     walk : ent 𝓤 (onEntry 𝓤 H A f.signature κs qs a at) (WpFn 𝓤 H C Λ code.function values K)
     walk =
-        qed W ((‵ (flft κ2 q2) ⊛ ‵ (flft κ3 q3) ⊛ ‵ (flft κ4 q4) ⊛ ‵ (flft κ5 q5) ⊛ ‵ (flft κ6 q6) ⊛ ‵ (flft κ8 q8) ⊛ ‵ (flft κ9 q9) ⊛ ‵
-        (flft κ10 q10) ⊛ ‵ (flft κ11 q11) ⊛ ‵ (flft κ12 q12) ⊛ ‵ (flft κ13 q13) ⊛ ‵ (flft κ14 q14) ⊛ ‵ (flft κ15 q15) ⊛ ‵ (flft κ16 q16) ⊛ ‵ ftrue)
-        ∷ ‵ (owns (Queryᵀ.the-row ∷ Limitsᵀ.the-row ∷ ShrSlice (named 0) κ2 u32 ∷ ShrSlice (named 1) κ3 Placementᵀ.the-row ∷ ShrSlice (named 2) κ4
-        u8 ∷ ShrSlice (named 3) κ5 u8 ∷ MutRef (named 4) κ6 Recordᵀ.the-row ∷ u32 ∷ MutSlice (named 5) κ8 i32 ∷ MutSlice (named 6) κ9 u8 ∷ MutSlice
-        (named 7) κ10 u32 ∷ MutSlice (named 8) κ11 u32 ∷ MutSlice (named 9) κ12 u32 ∷ MutSlice (named 10) κ13 u16 ∷ MutSlice (named 11) κ14 u16 ∷
-        MutSlice (named 12) κ15 u16 ∷ MutSlice (named 13) κ16 u32 ∷ []) a at) ∷ []) ∵
+        qed W ((‵ (flft κ2 q2) ⊛ ‵ (flft κ3 q3) ⊛ ‵ (flft κ4 q4) ⊛ ‵ (flft κ5 q5) ⊛ ‵ (flft κ6 q6) ⊛ ‵ (flft κ7 q7) ⊛ ‵ (flft κ9 q9) ⊛ ‵
+        (flft κ10 q10) ⊛ ‵ (flft κ11 q11) ⊛ ‵ (flft κ12 q12) ⊛ ‵ (flft κ13 q13) ⊛ ‵ (flft κ14 q14) ⊛ ‵ (flft κ15 q15) ⊛ ‵ (flft κ16 q16) ⊛ ‵
+        (flft κ17 q17) ⊛ ‵ ftrue) ∷ ‵ (owns (Queryᵀ.the-row ∷ Limitsᵀ.the-row ∷ ShrSlice (named 0) κ2 u32 ∷ ShrSlice (named 1) κ3 Placementᵀ.the-row
+        ∷ ShrSlice (named 2) κ4 u8 ∷ ShrSlice (named 3) κ5 u8 ∷ ShrSlice (named 4) κ6 i32 ∷ MutRef (named 5) κ7 Recordᵀ.the-row ∷ u32 ∷ MutSlice
+        (named 6) κ9 i32 ∷ MutSlice (named 7) κ10 u8 ∷ MutSlice (named 8) κ11 u32 ∷ MutSlice (named 9) κ12 u32 ∷ MutSlice (named 10) κ13 u32 ∷
+        MutSlice (named 11) κ14 u16 ∷ MutSlice (named 12) κ15 u16 ∷ MutSlice (named 13) κ16 u16 ∷ MutSlice (named 14) κ17 u32 ∷ []) a at) ∷ []) ∵
         enter ! C Λ code.function values _ $
         alloc1 ! (λ l₀. alloc1 ! (λ l₁. alloc1 ! (λ l₂. alloc1 ! (λ l₃. alloc1 ! (λ l₄. alloc1 ! (λ l₅. alloc1 ! (λ l₆. alloc1 ! (λ l₇.
         alloc1 ! (λ l₈. alloc1 ! (λ l₉. alloc1 ! (λ l₁₀. alloc1 ! (λ l₁₁. alloc1 ! (λ l₁₂. alloc1 ! (λ l₁₃. alloc1 ! (λ l₁₄. alloc1 ! (λ l₁₅.
         alloc1 ! (λ l₁₆. alloc1 ! (λ l₁₇. alloc1 ! (λ l₁₈. alloc1 ! (λ l₁₉. alloc1 ! (λ l₂₀. alloc1 ! (λ l₂₁. alloc1 ! (λ l₂₂. alloc1 ! (λ l₂₃.
         alloc1 ! (λ l₂₄. alloc1 ! (λ l₂₅. alloc1 ! (λ l₂₆. alloc1 ! (λ l₂₇. alloc1 ! (λ l₂₈. alloc1 ! (λ l₂₉. alloc1 ! (λ l₃₀. alloc1 ! (λ l₃₁.
         alloc1 ! (λ l₃₂. alloc1 ! (λ l₃₃. alloc1 ! (λ l₃₄. alloc1 ! (λ l₃₅. alloc1 ! (λ l₃₆. alloc1 ! (λ l₃₇. alloc1 ! (λ l₃₈. alloc1 ! (λ l₃₉.
-        alloc0 ! $ params1 ! $
-        pass1 ! (init ! 76 refl (LL.lawful Queryᵀ.the-type Queryᴸ.the-laws 𝓤 H A W .typed x0 _ g0 .0)) $
-        pass1 ! (init ! 74 refl (LL.lawful Limitsᵀ.the-type Limitsᴸ.the-laws 𝓤 H A W .typed x1 _ g1 .0)) $
-        pass1 ! (init ! 72 refl (tt, (tt, (record { fits = room2 .0 }, tt)))) $
-        pass1 ! (init ! 70 refl (tt, (tt, (record { fits = room3 .0 }, tt)))) $
-        pass1 ! (init ! 68 refl (tt, (tt, (record { fits = room4 .0 }, tt)))) $
-        pass1 ! (init ! 66 refl (tt, (tt, (record { fits = room5 .0 }, tt)))) $ pass1 ! (init ! 64 refl (tt, tt)) $
-        pass1 ! (init ! 62 refl (uint-lawful 𝓤 H A W w32 .typed x7 _ g7 .0)) $
-        pass1 ! (init ! 60 refl (tt, (tt, (record { fits = room8 .0 }, tt)))) $
-        pass1 ! (init ! 58 refl (tt, (tt, (record { fits = room9 .0 }, tt)))) $
-        pass1 ! (init ! 56 refl (tt, (tt, (record { fits = room10 .0 }, tt)))) $
-        pass1 ! (init ! 54 refl (tt, (tt, (record { fits = room11 .0 }, tt)))) $
-        pass1 ! (init ! 52 refl (tt, (tt, (record { fits = room12 .0 }, tt)))) $
-        pass1 ! (init ! 50 refl (tt, (tt, (record { fits = room13 .0 }, tt)))) $
-        pass1 ! (init ! 48 refl (tt, (tt, (record { fits = room14 .0 }, tt)))) $
-        pass1 ! (init ! 46 refl (tt, (tt, (record { fits = room15 .0 }, tt)))) $
-        pass1 ! (init ! 44 refl (tt, (tt, (record { fits = room16 .0 }, tt)))) $ pass0 ! $
-        move ! (81 ∷ []) $ fsplit ! $ drop ! $ fsplit ! $ drop ! $ fsplit ! $ move ! (1 ∷ []) $ fsplit ! $ move ! (1 ∷ []) $ fsplit ! $
-        move ! (1 ∷ []) $ fsplit ! $ move ! (1 ∷ []) $ fsplit ! $ fsplit3 ! $ drop ! $ move ! (2 ∷ []) $ fsplit ! $ drop ! $ fsplit ! $
+        alloc1 ! (λ l₄₀. alloc0 ! $ params1 ! $
+        pass1 ! (init ! 78 refl (LL.lawful Queryᵀ.the-type Queryᴸ.the-laws 𝓤 H A W .typed x0 _ g0 .0)) $
+        pass1 ! (init ! 76 refl (LL.lawful Limitsᵀ.the-type Limitsᴸ.the-laws 𝓤 H A W .typed x1 _ g1 .0)) $
+        pass1 ! (init ! 74 refl (tt, (tt, (record { fits = room2 .0 }, tt)))) $
+        pass1 ! (init ! 72 refl (tt, (tt, (record { fits = room3 .0 }, tt)))) $
+        pass1 ! (init ! 70 refl (tt, (tt, (record { fits = room4 .0 }, tt)))) $
+        pass1 ! (init ! 68 refl (tt, (tt, (record { fits = room5 .0 }, tt)))) $
+        pass1 ! (init ! 66 refl (tt, (tt, (record { fits = room6 .0 }, tt)))) $ pass1 ! (init ! 64 refl (tt, tt)) $
+        pass1 ! (init ! 62 refl (uint-lawful 𝓤 H A W w32 .typed x8 _ g8 .0)) $
+        pass1 ! (init ! 60 refl (tt, (tt, (record { fits = room9 .0 }, tt)))) $
+        pass1 ! (init ! 58 refl (tt, (tt, (record { fits = room10 .0 }, tt)))) $
+        pass1 ! (init ! 56 refl (tt, (tt, (record { fits = room11 .0 }, tt)))) $
+        pass1 ! (init ! 54 refl (tt, (tt, (record { fits = room12 .0 }, tt)))) $
+        pass1 ! (init ! 52 refl (tt, (tt, (record { fits = room13 .0 }, tt)))) $
+        pass1 ! (init ! 50 refl (tt, (tt, (record { fits = room14 .0 }, tt)))) $
+        pass1 ! (init ! 48 refl (tt, (tt, (record { fits = room15 .0 }, tt)))) $
+        pass1 ! (init ! 46 refl (tt, (tt, (record { fits = room16 .0 }, tt)))) $
+        pass1 ! (init ! 44 refl (tt, (tt, (record { fits = room17 .0 }, tt)))) $ pass0 ! $
+        move ! (83 ∷ []) $ fsplit ! $ drop ! $ fsplit ! $ drop ! $ fsplit ! $ move ! (1 ∷ []) $ fsplit ! $ move ! (1 ∷ []) $ fsplit ! $
+        move ! (1 ∷ []) $ fsplit ! $ move ! (1 ∷ []) $ fsplit ! $ move ! (1 ∷ []) $ fsplit ! $ fsplit3 ! $ drop ! $ move ! (2 ∷ []) $ fsplit ! $
+        drop ! $ fsplit ! $ move ! (1 ∷ []) $ fsplit ! $ move ! (1 ∷ []) $ fsplit ! $ move ! (1 ∷ []) $ fsplit ! $ move ! (1 ∷ []) $ fsplit ! $
         move ! (1 ∷ []) $ fsplit ! $ move ! (1 ∷ []) $ fsplit ! $ move ! (1 ∷ []) $ fsplit ! $ move ! (1 ∷ []) $ fsplit ! $ move ! (1 ∷ []) $
-        fsplit ! $ move ! (1 ∷ []) $ fsplit ! $ move ! (1 ∷ []) $ fsplit ! $ move ! (1 ∷ []) $ fsplit ! $ move ! (1 ∷ []) $ drop ! $
-        move ! (95 ∷ []) $ split ! $ move ! (1 ∷ []) $ split ! $ move ! (1 ∷ []) $ split ! $ move ! (1 ∷ []) $ split ! $ move ! (1 ∷ []) $ split ! $
+        drop ! $
+        move ! (98 ∷ []) $ split ! $ move ! (1 ∷ []) $ split ! $ move ! (1 ∷ []) $ split ! $ move ! (1 ∷ []) $ split ! $ move ! (1 ∷ []) $ split ! $
         move ! (1 ∷ []) $ split ! $ move ! (1 ∷ []) $ split ! $ move ! (1 ∷ []) $ split ! $ move ! (1 ∷ []) $ split ! $ move ! (1 ∷ []) $ split ! $
-        move ! (1 ∷ []) $ split ! $ move ! (1 ∷ []) $ split ! $ move ! (1 ∷ []) $ split ! $ move ! (1 ∷ []) $ split ! $ move ! (1 ∷ []) $ drop ! $
+        move ! (1 ∷ []) $ split ! $ move ! (1 ∷ []) $ split ! $ move ! (1 ∷ []) $ split ! $ move ! (1 ∷ []) $ split ! $ move ! (1 ∷ []) $ split ! $
+        move ! (1 ∷ []) $ drop ! $
         -- the placements laid flat
-        move ! (27 ∷ []) $
+        move ! (29 ∷ []) $
         use1 W (‵ Own3 ⊛ ‵ Own3) (shr-slice-copy 𝓤 H A W (named 1) κ3 Placementᵀ.the-row .twice p3 (sliceVal (p3 .ptr) (length (p3 .now)) ∷ [])) $
-        split ! $ move ! (14 ∷ 0 ∷ []) $ use2 W (raw (Flat 𝓤 H A at-mem run .pre to-flat)) asks-flat $
-        calls-at ! fm (Flat 𝓤 H A at-mem run) fknown to-flat (and-then ! (load ! (from ! (stop !)) (look ! 99 refl)) (no-more !)) (λ wf.
+        split ! $ move ! (15 ∷ 0 ∷ []) $ use2 W (raw (Flat 𝓤 H A at-mem run .pre to-flat)) asks-flat $
+        calls-at ! fm (Flat 𝓤 H A at-mem run) fknown to-flat (and-then ! (load ! (from ! (stop !)) (look ! 103 refl)) (no-more !)) (λ wf.
         use1 W (later (some (λ (fl : Rows). ((‵ (flft κ3 q3) ⊛ ‵ ftrue) ⊛ ‵ (Rowsᵀ.the-row .own fl (wf ∷ []))) ⊛ raw
         (ensured 𝓤 H A flat.ended (flat.clauses 𝓤 H A at-mem run) (κ3, tt) (p3, tt) tt fl)))) (id⊢ 𝓤 _) $
         await ! tt $ pick ! (λ fl.
@@ -641,138 +674,143 @@ module _ {M : Type 1} (𝓤 : URA M) (H : Heap 𝓤) (A : Atoms 𝓤) (W : Given
         use1 W (some (λ (zf : Unit {0} × Unit {0}). ‵ (lasts flat.ended (κ3, tt) (p3, tt) zf) ⊛ raw (fact 𝓤 (fl ≡ rowsOf (p3 .now))))) (id⊢ 𝓤 _) $
         pick ! (λ zf. split ! $ move ! (1 ∷ []) $ heard ! (fl ≡ rowsOf (p3 .now)) (λ ef.
         drop ! $ split ! $ split ! $ move ! (2 ∷ []) $ peeks ! Rowsᵀ.the-row (Is Rowsᵀ.the-row) (shows 𝓤 H A Rowsᵀ.the-row) fl (wf ∷ []) (λ isf.
-        drop ! $ land ! (from ! (stop !)) (init ! 72 refl (LL.lawful Rowsᵀ.the-type Rowsᴸ.the-laws 𝓤 H A W .typed fl _ isf .0)) $
-        rewrite ! 72 (λ (v : Val). ‵ (fat fullShare Rowsᴸ.mir l₁₈ 0 v)) (ap only (LL.tells Rowsᵀ.the-type Rowsᴸ.the-laws fl (wf ∷ []) isf)) refl $
+        drop ! $ land ! (from ! (stop !)) (init ! 74 refl (LL.lawful Rowsᵀ.the-type Rowsᴸ.the-laws 𝓤 H A W .typed fl _ isf .0)) $
+        rewrite ! 74 (λ (v : Val). ‵ (fat fullShare Rowsᴸ.mir l₁₉ 0 v)) (ap only (LL.tells Rowsᵀ.the-type Rowsᴸ.the-laws fl (wf ∷ []) isf)) refl $
         -- the record, copied out of its borrow
-        move ! (25 ∷ 26 ∷ 12 ∷ []) $ opens ! tt Recordᵀ.the-row {h = (p6 .now)} (p6 .ptr .0) (p6 .ptr .1) (λ vs.
+        move ! (26 ∷ 27 ∷ 12 ∷ []) $ opens ! tt Recordᵀ.the-row {h = (p7 .now)} (p7 .ptr .0) (p7 .ptr .1) (λ vs.
         spelt ! Recordᵀ.the-row (Is Recordᵀ.the-row) (shows 𝓤 H A Recordᵀ.the-row) (LL.vals Recordᵀ.the-type Recordᴸ.the-laws)
-        (LL.tells Recordᵀ.the-type Recordᴸ.the-laws) fullShare (p6 .now) vs (p6 .ptr .0) (p6 .ptr .1) $
-        use1 W (‵ (fat fullShare Recordᴸ.mir (p6 .ptr .0) (p6 .ptr .1) (LL.val Recordᵀ.the-type Recordᴸ.the-laws (p6 .now))))
-        (W .laws .raw-at fullShare Recordᴸ.mir (p6 .ptr .0) (p6 .ptr .1) (LL.val Recordᵀ.the-type Recordᴸ.the-laws (p6 .now))) $
+        (LL.tells Recordᵀ.the-type Recordᴸ.the-laws) fullShare (p7 .now) vs (p7 .ptr .0) (p7 .ptr .1) $
+        use1 W (‵ (fat fullShare Recordᴸ.mir (p7 .ptr .0) (p7 .ptr .1) (LL.val Recordᵀ.the-type Recordᴸ.the-laws (p7 .now))))
+        (W .laws .raw-at fullShare Recordᴸ.mir (p7 .ptr .0) (p7 .ptr .1) (LL.val Recordᵀ.the-type Recordᴸ.the-laws (p7 .now))) $
         move ! (1 ∷ []) $
-        peeks ! Recordᵀ.the-row (Is Recordᵀ.the-row) (shows 𝓤 H A Recordᵀ.the-row) (p6 .now)
-        (LL.val Recordᵀ.the-type Recordᴸ.the-laws (p6 .now) ∷ []) (λ gh.
+        peeks ! Recordᵀ.the-row (Is Recordᵀ.the-row) (shows 𝓤 H A Recordᵀ.the-row) (p7 .now)
+        (LL.val Recordᵀ.the-type Recordᴸ.the-laws (p7 .now) ∷ []) (λ gh.
         drop ! $
         -- the core's operands
-        assigns ! (of-opd ! (load ! (from ! (fld ! refl (stop !))) (look-in ! 101 (sub ! 1 refl (whole !))))) (from ! (stop !))
-        (init ! 69 refl (tt, record { fits = room3 .0 })) $
-        assigns ! (of-opd ! (load ! (from ! (hop ! (look ! 95 refl) (stop !))) (look ! 0 refl))) (from ! (stop !))
-        (init ! 67 refl (LL.lawful Recordᵀ.the-type Recordᴸ.the-laws 𝓤 H A W .typed (p6 .now) _ gh .0)) $
+        assigns ! (of-opd ! (load ! (from ! (fld ! refl (stop !))) (look-in ! 105 (sub ! 1 refl (whole !))))) (from ! (stop !))
+        (init ! 71 refl (tt, record { fits = room3 .0 })) $
+        assigns ! (of-opd ! (load ! (from ! (hop ! (look ! 97 refl) (stop !))) (look ! 0 refl))) (from ! (stop !))
+        (init ! 69 refl (LL.lawful Recordᵀ.the-type Recordᴸ.the-laws 𝓤 H A W .typed (p7 .now) _ gh .0)) $
+        assigns ! (addr ! (from ! (fld ! refl (hop ! (look-in ! 93 (sub ! 0 refl (whole !))) (stop !))))) (from ! (stop !))
+        (init ! 67 refl (tt, tt)) $
+        assigns ! (agg ! (and-then ! (load ! (from ! (stop !)) (look ! 67 refl))
+        (and-then ! (load ! (from ! (fld ! refl (stop !))) (look-in ! 93 (sub ! 1 refl (whole !)))) (no-more !)))) (from ! (stop !))
+        (init ! 65 refl (tt, (tt, (record { fits = room9 .0 }, tt)))) $
         assigns ! (addr ! (from ! (fld ! refl (hop ! (look-in ! 91 (sub ! 0 refl (whole !))) (stop !))))) (from ! (stop !))
-        (init ! 65 refl (tt, tt)) $
-        assigns ! (agg ! (and-then ! (load ! (from ! (stop !)) (look ! 65 refl))
+        (init ! 63 refl (tt, tt)) $
+        assigns ! (agg ! (and-then ! (load ! (from ! (stop !)) (look ! 63 refl))
         (and-then ! (load ! (from ! (fld ! refl (stop !))) (look-in ! 91 (sub ! 1 refl (whole !)))) (no-more !)))) (from ! (stop !))
-        (init ! 63 refl (tt, (tt, (record { fits = room8 .0 }, tt)))) $
+        (init ! 61 refl (tt, (tt, (record { fits = room10 .0 }, tt)))) $
         assigns ! (addr ! (from ! (fld ! refl (hop ! (look-in ! 89 (sub ! 0 refl (whole !))) (stop !))))) (from ! (stop !))
-        (init ! 61 refl (tt, tt)) $
-        assigns ! (agg ! (and-then ! (load ! (from ! (stop !)) (look ! 61 refl))
+        (init ! 59 refl (tt, tt)) $
+        assigns ! (agg ! (and-then ! (load ! (from ! (stop !)) (look ! 59 refl))
         (and-then ! (load ! (from ! (fld ! refl (stop !))) (look-in ! 89 (sub ! 1 refl (whole !)))) (no-more !)))) (from ! (stop !))
-        (init ! 59 refl (tt, (tt, (record { fits = room9 .0 }, tt)))) $
+        (init ! 57 refl (tt, (tt, (record { fits = room11 .0 }, tt)))) $
         assigns ! (addr ! (from ! (fld ! refl (hop ! (look-in ! 87 (sub ! 0 refl (whole !))) (stop !))))) (from ! (stop !))
-        (init ! 57 refl (tt, tt)) $
-        assigns ! (agg ! (and-then ! (load ! (from ! (stop !)) (look ! 57 refl))
+        (init ! 55 refl (tt, tt)) $
+        assigns ! (agg ! (and-then ! (load ! (from ! (stop !)) (look ! 55 refl))
         (and-then ! (load ! (from ! (fld ! refl (stop !))) (look-in ! 87 (sub ! 1 refl (whole !)))) (no-more !)))) (from ! (stop !))
-        (init ! 55 refl (tt, (tt, (record { fits = room10 .0 }, tt)))) $
+        (init ! 53 refl (tt, (tt, (record { fits = room12 .0 }, tt)))) $
         assigns ! (addr ! (from ! (fld ! refl (hop ! (look-in ! 85 (sub ! 0 refl (whole !))) (stop !))))) (from ! (stop !))
-        (init ! 53 refl (tt, tt)) $
-        assigns ! (agg ! (and-then ! (load ! (from ! (stop !)) (look ! 53 refl))
+        (init ! 51 refl (tt, tt)) $
+        assigns ! (agg ! (and-then ! (load ! (from ! (stop !)) (look ! 51 refl))
         (and-then ! (load ! (from ! (fld ! refl (stop !))) (look-in ! 85 (sub ! 1 refl (whole !)))) (no-more !)))) (from ! (stop !))
-        (init ! 51 refl (tt, (tt, (record { fits = room11 .0 }, tt)))) $
+        (init ! 49 refl (tt, (tt, (record { fits = room13 .0 }, tt)))) $
         assigns ! (addr ! (from ! (fld ! refl (hop ! (look-in ! 83 (sub ! 0 refl (whole !))) (stop !))))) (from ! (stop !))
-        (init ! 49 refl (tt, tt)) $
-        assigns ! (agg ! (and-then ! (load ! (from ! (stop !)) (look ! 49 refl))
+        (init ! 47 refl (tt, tt)) $
+        assigns ! (agg ! (and-then ! (load ! (from ! (stop !)) (look ! 47 refl))
         (and-then ! (load ! (from ! (fld ! refl (stop !))) (look-in ! 83 (sub ! 1 refl (whole !)))) (no-more !)))) (from ! (stop !))
-        (init ! 47 refl (tt, (tt, (record { fits = room12 .0 }, tt)))) $
+        (init ! 45 refl (tt, (tt, (record { fits = room14 .0 }, tt)))) $
         assigns ! (addr ! (from ! (fld ! refl (hop ! (look-in ! 81 (sub ! 0 refl (whole !))) (stop !))))) (from ! (stop !))
-        (init ! 45 refl (tt, tt)) $
-        assigns ! (agg ! (and-then ! (load ! (from ! (stop !)) (look ! 45 refl))
+        (init ! 43 refl (tt, tt)) $
+        assigns ! (agg ! (and-then ! (load ! (from ! (stop !)) (look ! 43 refl))
         (and-then ! (load ! (from ! (fld ! refl (stop !))) (look-in ! 81 (sub ! 1 refl (whole !)))) (no-more !)))) (from ! (stop !))
-        (init ! 43 refl (tt, (tt, (record { fits = room13 .0 }, tt)))) $
+        (init ! 41 refl (tt, (tt, (record { fits = room15 .0 }, tt)))) $
         assigns ! (addr ! (from ! (fld ! refl (hop ! (look-in ! 79 (sub ! 0 refl (whole !))) (stop !))))) (from ! (stop !))
-        (init ! 41 refl (tt, tt)) $
-        assigns ! (agg ! (and-then ! (load ! (from ! (stop !)) (look ! 41 refl))
+        (init ! 39 refl (tt, tt)) $
+        assigns ! (agg ! (and-then ! (load ! (from ! (stop !)) (look ! 39 refl))
         (and-then ! (load ! (from ! (fld ! refl (stop !))) (look-in ! 79 (sub ! 1 refl (whole !)))) (no-more !)))) (from ! (stop !))
-        (init ! 39 refl (tt, (tt, (record { fits = room14 .0 }, tt)))) $
+        (init ! 37 refl (tt, (tt, (record { fits = room16 .0 }, tt)))) $
         assigns ! (addr ! (from ! (fld ! refl (hop ! (look-in ! 77 (sub ! 0 refl (whole !))) (stop !))))) (from ! (stop !))
-        (init ! 37 refl (tt, tt)) $
-        assigns ! (agg ! (and-then ! (load ! (from ! (stop !)) (look ! 37 refl))
+        (init ! 35 refl (tt, tt)) $
+        assigns ! (agg ! (and-then ! (load ! (from ! (stop !)) (look ! 35 refl))
         (and-then ! (load ! (from ! (fld ! refl (stop !))) (look-in ! 77 (sub ! 1 refl (whole !)))) (no-more !)))) (from ! (stop !))
-        (init ! 35 refl (tt, (tt, (record { fits = room15 .0 }, tt)))) $
-        assigns ! (addr ! (from ! (fld ! refl (hop ! (look-in ! 75 (sub ! 0 refl (whole !))) (stop !))))) (from ! (stop !))
-        (init ! 33 refl (tt, tt)) $
-        assigns ! (agg ! (and-then ! (load ! (from ! (stop !)) (look ! 33 refl))
-        (and-then ! (load ! (from ! (fld ! refl (stop !))) (look-in ! 75 (sub ! 1 refl (whole !)))) (no-more !)))) (from ! (stop !))
-        (init ! 31 refl (tt, (tt, (record { fits = room16 .0 }, tt)))) $
-        move ! (30 ∷ []) $
-        use1 W (‵ Own2 ⊛ ‵ Own2) (shr-slice-copy 𝓤 H A W (named 0) κ2 u32 .twice p2 (sliceVal (p2 .ptr) (length (p2 .now)) ∷ [])) $ split ! $
-        move ! (31 ∷ []) $
-        use1 W (‵ Own4 ⊛ ‵ Own4) (shr-slice-copy 𝓤 H A W (named 2) κ4 u8 .twice p4 (sliceVal (p4 .ptr) (length (p4 .now)) ∷ [])) $ split ! $
+        (init ! 33 refl (tt, (tt, (record { fits = room17 .0 }, tt)))) $
         move ! (32 ∷ []) $
+        use1 W (‵ Own2 ⊛ ‵ Own2) (shr-slice-copy 𝓤 H A W (named 0) κ2 u32 .twice p2 (sliceVal (p2 .ptr) (length (p2 .now)) ∷ [])) $ split ! $
+        move ! (33 ∷ []) $
+        use1 W (‵ Own4 ⊛ ‵ Own4) (shr-slice-copy 𝓤 H A W (named 2) κ4 u8 .twice p4 (sliceVal (p4 .ptr) (length (p4 .now)) ∷ [])) $ split ! $
+        move ! (34 ∷ []) $
         use1 W (‵ Own5 ⊛ ‵ Own5) (shr-slice-copy 𝓤 H A W (named 3) κ5 u8 .twice p5 (sliceVal (p5 .ptr) (length (p5 .now)) ∷ [])) $ split ! $
-        move ! (24 ∷ 23 ∷ 22 ∷ 21 ∷ 20 ∷ 19 ∷ 18 ∷ 17 ∷ 16 ∷ 15 ∷ 14 ∷ 13 ∷ 4 ∷ 2 ∷ 0 ∷ 33 ∷ 32 ∷ 31 ∷ 30 ∷ 29 ∷ 28 ∷ 27 ∷ 26 ∷ 25 ∷ []) $
-        group ! 24 $ use1 W (raw (Core 𝓤 H A at-mem run .pre (to-core fl))) (goes fl (respell fl wf isf) gh) $
-        calls-at ! fm (Core 𝓤 H A at-mem run) known (to-core fl) (and-then ! (load ! (from ! (stop !)) (look ! 87 refl))
-        (and-then ! (load ! (from ! (stop !)) (look ! 85 refl)) (and-then ! (load ! (from ! (stop !)) (look ! 83 refl))
-        (and-then ! (load ! (from ! (stop !)) (look ! 53 refl)) (and-then ! (load ! (from ! (stop !)) (look ! 49 refl))
-        (and-then ! (load ! (from ! (stop !)) (look ! 79 refl)) (and-then ! (load ! (from ! (stop !)) (look ! 77 refl))
-        (and-then ! (load ! (from ! (stop !)) (look ! 47 refl)) (and-then ! (load ! (from ! (stop !)) (look ! 73 refl))
-        (and-then ! (load ! (from ! (stop !)) (look ! 43 refl)) (and-then ! (load ! (from ! (stop !)) (look ! 39 refl))
-        (and-then ! (load ! (from ! (stop !)) (look ! 35 refl)) (and-then ! (load ! (from ! (stop !)) (look ! 31 refl))
-        (and-then ! (load ! (from ! (stop !)) (look ! 27 refl)) (and-then ! (load ! (from ! (stop !)) (look ! 23 refl))
-        (and-then ! (load ! (from ! (stop !)) (look ! 19 refl)) (and-then ! (load ! (from ! (stop !)) (look ! 15 refl))
-        (and-then ! (load ! (from ! (stop !)) (look ! 11 refl)) (no-more !))))))))))))))))))) (λ w.
-        use1 W (later (some (λ (r : Reply). ((‵ (flft κ2 q2) ⊛ ‵ (flft κ4 q4) ⊛ ‵ (flft κ5 q5) ⊛ ‵ (flft κ8 q8) ⊛ ‵ (flft κ9 q9) ⊛ ‵ (flft κ10 q10)
-        ⊛ ‵ (flft κ11 q11) ⊛ ‵ (flft κ12 q12) ⊛ ‵ (flft κ13 q13) ⊛ ‵ (flft κ14 q14) ⊛ ‵ (flft κ15 q15) ⊛ ‵ (flft κ16 q16) ⊛ ‵ ftrue) ⊛ ‵
-        (Replyᵀ.the-row .own r (w ∷ []))) ⊛ raw (ensured 𝓤 H A core.ended (core.clauses 𝓤 H A at-mem run) cκs (c-args fl) tt r)))) (id⊢ 𝓤 _) $
+        move ! (35 ∷ []) $
+        use1 W (‵ Own6 ⊛ ‵ Own6) (shr-slice-copy 𝓤 H A W (named 4) κ6 i32 .twice p6 (sliceVal (p6 .ptr) (length (p6 .now)) ∷ [])) $ split ! $
+        move ! (27 ∷ 26 ∷ 25 ∷ 24 ∷ 23 ∷ 22 ∷ 21 ∷ 20 ∷ 19 ∷ 18 ∷ 17 ∷ 16 ∷ 15 ∷ 6 ∷ 4 ∷ 2 ∷ 0 ∷ 36 ∷ 35 ∷ 34 ∷ 33 ∷ 32 ∷ 31 ∷ 30 ∷ 29 ∷ 28 ∷ []) $
+        group ! 26 $ use1 W (raw (Core 𝓤 H A at-mem run .pre (to-core fl))) (goes fl (respell fl wf isf) gh) $
+        calls-at ! fm (Core 𝓤 H A at-mem run) known (to-core fl) (and-then ! (load ! (from ! (stop !)) (look ! 90 refl))
+        (and-then ! (load ! (from ! (stop !)) (look ! 88 refl)) (and-then ! (load ! (from ! (stop !)) (look ! 86 refl))
+        (and-then ! (load ! (from ! (stop !)) (look ! 54 refl)) (and-then ! (load ! (from ! (stop !)) (look ! 50 refl))
+        (and-then ! (load ! (from ! (stop !)) (look ! 82 refl)) (and-then ! (load ! (from ! (stop !)) (look ! 80 refl))
+        (and-then ! (load ! (from ! (stop !)) (look ! 78 refl)) (and-then ! (load ! (from ! (stop !)) (look ! 48 refl))
+        (and-then ! (load ! (from ! (stop !)) (look ! 74 refl)) (and-then ! (load ! (from ! (stop !)) (look ! 44 refl))
+        (and-then ! (load ! (from ! (stop !)) (look ! 40 refl)) (and-then ! (load ! (from ! (stop !)) (look ! 36 refl))
+        (and-then ! (load ! (from ! (stop !)) (look ! 32 refl)) (and-then ! (load ! (from ! (stop !)) (look ! 28 refl))
+        (and-then ! (load ! (from ! (stop !)) (look ! 24 refl)) (and-then ! (load ! (from ! (stop !)) (look ! 20 refl))
+        (and-then ! (load ! (from ! (stop !)) (look ! 16 refl)) (and-then ! (load ! (from ! (stop !)) (look ! 12 refl))
+        (no-more !)))))))))))))))))))) (λ w.
+        use1 W (later (some (λ (r : Reply). ((‵ (flft κ2 q2) ⊛ ‵ (flft κ4 q4) ⊛ ‵ (flft κ5 q5) ⊛ ‵ (flft κ6 q6) ⊛ ‵ (flft κ9 q9) ⊛ ‵ (flft κ10 q10)
+        ⊛ ‵ (flft κ11 q11) ⊛ ‵ (flft κ12 q12) ⊛ ‵ (flft κ13 q13) ⊛ ‵ (flft κ14 q14) ⊛ ‵ (flft κ15 q15) ⊛ ‵ (flft κ16 q16) ⊛ ‵ (flft κ17 q17) ⊛ ‵
+        ftrue) ⊛ ‵ (Replyᵀ.the-row .own r (w ∷ []))) ⊛ raw (ensured 𝓤 H A core.ended (core.clauses 𝓤 H A at-mem run) cκs (c-args fl) tt r))))
+        (id⊢ 𝓤 _) $
         await ! tt $ pick ! (λ r.
         split ! $ move ! (1 ∷ []) $ use1 W (some (λ (zs : Last). ‵ (lasts core.ended cκs (c-args fl) zs) ⊛ raw (fact 𝓤 (Said fl r zs)))) (id⊢ 𝓤 _) $
         pick ! (λ zs. split ! $ move ! (1 ∷ []) $ heard ! (Said fl r zs) (λ e.
         fsplit ! $ drop ! $ fsplit ! $ drop ! $ fsplit ! $ drop ! $ fsplit ! $ drop ! $ fsplit ! $ drop ! $ fsplit ! $ drop ! $ fsplit ! $ drop ! $
-        fsplit ! $ drop ! $ fsplit ! $ drop ! $ fsplit ! $ fsplit ! $ move ! (1 ∷ []) $ feqL ! (λ l8. move ! (1 ∷ []) $ fsplit ! $ fsplit ! $
-        move ! (1 ∷ []) $ feqL ! (λ l9. move ! (1 ∷ []) $ fsplit ! $ fsplit ! $ move ! (1 ∷ []) $ feqL ! (λ l10. move ! (1 ∷ []) $ fsplit ! $
-        fsplit ! $ move ! (1 ∷ []) $ feqL ! (λ l11. move ! (1 ∷ []) $ fsplit ! $ fsplit ! $ move ! (1 ∷ []) $ feqL ! (λ l12. move ! (1 ∷ []) $
-        fsplit ! $ fsplit ! $ move ! (1 ∷ []) $ feqL ! (λ l13. move ! (1 ∷ []) $ fsplit ! $ fsplit ! $ move ! (1 ∷ []) $ feqL ! (λ l14.
-        move ! (1 ∷ []) $ fsplit ! $ fsplit ! $ move ! (1 ∷ []) $ feqL ! (λ l15. move ! (1 ∷ []) $ fsplit ! $ fsplit ! $ move ! (1 ∷ []) $
-        feqL ! (λ l16.
+        fsplit ! $ drop ! $ fsplit ! $ drop ! $ fsplit ! $ drop ! $ fsplit ! $ fsplit ! $ move ! (1 ∷ []) $ feqL ! (λ l9. move ! (1 ∷ []) $
+        fsplit ! $ fsplit ! $ move ! (1 ∷ []) $ feqL ! (λ l10. move ! (1 ∷ []) $ fsplit ! $ fsplit ! $ move ! (1 ∷ []) $ feqL ! (λ l11.
+        move ! (1 ∷ []) $ fsplit ! $ fsplit ! $ move ! (1 ∷ []) $ feqL ! (λ l12. move ! (1 ∷ []) $ fsplit ! $ fsplit ! $ move ! (1 ∷ []) $
+        feqL ! (λ l13. move ! (1 ∷ []) $ fsplit ! $ fsplit ! $ move ! (1 ∷ []) $ feqL ! (λ l14. move ! (1 ∷ []) $ fsplit ! $ fsplit ! $
+        move ! (1 ∷ []) $ feqL ! (λ l15. move ! (1 ∷ []) $ fsplit ! $ fsplit ! $ move ! (1 ∷ []) $ feqL ! (λ l16. move ! (1 ∷ []) $ fsplit ! $
+        fsplit ! $ move ! (1 ∷ []) $ feqL ! (λ l17.
         move ! (10 ∷ []) $ split ! $ move ! (1 ∷ []) $ peeks ! Replyᵀ.the-row (Is Replyᵀ.the-row) (shows 𝓤 H A Replyᵀ.the-row) r (w ∷ []) (λ is.
-        land ! (from ! (stop !)) (init ! 62 refl (LL.lawful Replyᵀ.the-type Replyᴸ.the-laws 𝓤 H A W .typed r _ is .0)) $
-        rewrite ! 62 (λ (v : Val). ‵ (fat fullShare Replyᴸ.mir l₁₉ 0 v)) (ap only (LL.tells Replyᵀ.the-type Replyᴸ.the-laws r (w ∷ []) is)) refl $
+        land ! (from ! (stop !)) (init ! 63 refl (LL.lawful Replyᵀ.the-type Replyᴸ.the-laws 𝓤 H A W .typed r _ is .0)) $
+        rewrite ! 63 (λ (v : Val). ‵ (fat fullShare Replyᴸ.mir l₂₀ 0 v)) (ap only (LL.tells Replyᵀ.the-type Replyᴸ.the-laws r (w ∷ []) is)) refl $
         -- the record is stored back
-        assigns ! (of-opd ! (load ! (from ! (fld ! refl (stop !))) (look-in ! 62 (sub ! 1 refl (whole !)))))
-        (from ! (hop ! (look ! 86 refl) (stop !))) (store ! 15 refl (LL.lawful Recordᵀ.the-type Recordᴸ.the-laws 𝓤 H A W .typed (r .rec) _
+        assigns ! (of-opd ! (load ! (from ! (fld ! refl (stop !))) (look-in ! 63 (sub ! 1 refl (whole !)))))
+        (from ! (hop ! (look ! 87 refl) (stop !))) (store ! 16 refl (LL.lawful Recordᵀ.the-type Recordᴸ.the-laws 𝓤 H A W .typed (r .rec) _
         (parts r w is .1 .0) .0)) $
-        assigns ! (of-opd ! (load ! (from ! (fld ! refl (stop !))) (look-in ! 62 (sub ! 0 refl (whole !))))) (from ! (stop !))
-        (init ! 100 refl (EL.lawful Answerᵀ.the-type Answerᴸ.the-laws 𝓤 H A W tt .typed (r .answer) _ (parts r w is .0) .0)) $
+        assigns ! (of-opd ! (load ! (from ! (fld ! refl (stop !))) (look-in ! 63 (sub ! 0 refl (whole !))))) (from ! (stop !))
+        (init ! 103 refl (EL.lawful Answerᵀ.the-type Answerᴸ.the-laws 𝓤 H A W tt .typed (r .answer) _ (parts r w is .0) .0)) $
         owned ! Recordᵀ.the-row (Is Recordᵀ.the-row) (LL.makes Recordᵀ.the-type Recordᴸ.the-plain 𝓤 H A) (r .rec) _ (parts r w is .1 .0) $
-        move ! (16 ∷ []) $
-        use1 W (‵ (cellAt fullShare (Recordᵀ.the-row .mir) (LL.val Recordᵀ.the-type Recordᴸ.the-laws (r .rec) ∷ []) (p6 .ptr .0) (p6 .ptr .1)))
-        (W .laws .at-raw fullShare Recordᴸ.mir (p6 .ptr .0) (p6 .ptr .1) (LL.val Recordᵀ.the-type Recordᴸ.the-laws (r .rec))) $
-        move ! (0 ∷ 1 ∷ 17 ∷ 18 ∷ 19 ∷ []) $
-        closes ! tt Recordᵀ.the-row (r .rec) (LL.val Recordᵀ.the-type Recordᴸ.the-laws (r .rec) ∷ []) (p6 .ptr .0) (p6 .ptr .1) $
+        move ! (17 ∷ []) $
+        use1 W (‵ (cellAt fullShare (Recordᵀ.the-row .mir) (LL.val Recordᵀ.the-type Recordᴸ.the-laws (r .rec) ∷ []) (p7 .ptr .0) (p7 .ptr .1)))
+        (W .laws .at-raw fullShare Recordᴸ.mir (p7 .ptr .0) (p7 .ptr .1) (LL.val Recordᵀ.the-type Recordᴸ.the-laws (r .rec))) $
+        move ! (0 ∷ 1 ∷ 18 ∷ 19 ∷ 20 ∷ []) $
+        closes ! tt Recordᵀ.the-row (r .rec) (LL.val Recordᵀ.the-type Recordᴸ.the-laws (r .rec) ∷ []) (p7 .ptr .0) (p7 .ptr .1) $
         move ! (4 ∷ []) $ split ! $ move ! (1 ∷ []) $ split ! $ move ! (1 ∷ []) $ split ! $ move ! (1 ∷ []) $ split ! $ move ! (1 ∷ []) $ split ! $
         move ! (1 ∷ []) $ split ! $ move ! (1 ∷ []) $ split ! $ move ! (1 ∷ []) $ split ! $ move ! (1 ∷ []) $ split ! $ move ! (1 ∷ []) $ split ! $
-        move ! (1 ∷ []) $ split ! $ move ! (1 ∷ []) $ split ! $ move ! (1 ∷ []) $
-        returns ! (look ! 111 refl) $ forget ! 33 refl $ forget ! 35 refl $ forget ! 37 refl $ forget ! 39 refl $ forget ! 41 refl $
-        forget ! 43 refl $ forget ! 45 refl $ forget ! 47 refl $ forget ! 49 refl $ forget ! 51 refl $ forget ! 53 refl $ forget ! 55 refl $
-        forget ! 57 refl $ forget ! 59 refl $ forget ! 61 refl $ forget ! 63 refl $ forget ! 65 refl $ forget ! 67 refl $ forget ! 69 refl $
-        forget ! 71 refl $ forget ! 73 refl $ forget ! 75 refl $ forget ! 77 refl $ forget ! 79 refl $ forget ! 81 refl $ forget ! 83 refl $
-        forget ! 85 refl $ forget ! 87 refl $ forget ! 89 refl $ forget ! 91 refl $ forget ! 93 refl $ forget ! 95 refl $ forget ! 97 refl $
-        forget ! 99 refl $ forget ! 101 refl $ forget ! 103 refl $ forget ! 105 refl $ forget ! 107 refl $ forget ! 109 refl $ forget ! 111 refl $
-        move ! (111 ∷ 112 ∷ []) $ free1 ! $ move ! (109 ∷ 110 ∷ []) $ free1 ! $ move ! (107 ∷ 108 ∷ []) $ free1 ! $ move ! (105 ∷ 106 ∷ []) $
-        free1 ! $ move ! (103 ∷ 104 ∷ []) $ free1 ! $ move ! (101 ∷ 102 ∷ []) $ free1 ! $ move ! (99 ∷ 100 ∷ []) $ free1 ! $ move ! (97 ∷ 98 ∷ []) $
-        free1 ! $ move ! (95 ∷ 96 ∷ []) $ free1 ! $ move ! (93 ∷ 94 ∷ []) $ free1 ! $ move ! (91 ∷ 92 ∷ []) $ free1 ! $ move ! (89 ∷ 90 ∷ []) $
-        free1 ! $ move ! (87 ∷ 88 ∷ []) $ free1 ! $ move ! (85 ∷ 86 ∷ []) $ free1 ! $ move ! (83 ∷ 84 ∷ []) $ free1 ! $ move ! (81 ∷ 82 ∷ []) $
-        free1 ! $ move ! (79 ∷ 80 ∷ []) $ free1 ! $ move ! (77 ∷ 78 ∷ []) $ free1 ! $ move ! (75 ∷ 76 ∷ []) $ free1 ! $ move ! (73 ∷ 74 ∷ []) $
-        free1 ! $ move ! (71 ∷ 72 ∷ []) $ free1 ! $ move ! (69 ∷ 70 ∷ []) $ free1 ! $ move ! (67 ∷ 68 ∷ []) $ free1 ! $ move ! (65 ∷ 66 ∷ []) $
-        free1 ! $ move ! (63 ∷ 64 ∷ []) $ free1 ! $ move ! (61 ∷ 62 ∷ []) $ free1 ! $ move ! (59 ∷ 60 ∷ []) $ free1 ! $ move ! (57 ∷ 58 ∷ []) $
-        free1 ! $ move ! (55 ∷ 56 ∷ []) $ free1 ! $ move ! (53 ∷ 54 ∷ []) $ free1 ! $ move ! (51 ∷ 52 ∷ []) $ free1 ! $ move ! (49 ∷ 50 ∷ []) $
-        free1 ! $ move ! (47 ∷ 48 ∷ []) $ free1 ! $ move ! (45 ∷ 46 ∷ []) $ free1 ! $ move ! (43 ∷ 44 ∷ []) $ free1 ! $ move ! (41 ∷ 42 ∷ []) $
-        free1 ! $ move ! (39 ∷ 40 ∷ []) $ free1 ! $ move ! (37 ∷ 38 ∷ []) $ free1 ! $ move ! (35 ∷ 36 ∷ []) $ free1 ! $ move ! (33 ∷ 34 ∷ []) $
-        free1 ! $ free0 ! $
-        keep ! (13 ∷ 14 ∷ 12 ∷ 30 ∷ 11 ∷ 10 ∷ 15 ∷ 9 ∷ 8 ∷ 7 ∷ 6 ∷ 5 ∷ 4 ∷ 3 ∷ 2 ∷ 1 ∷ 29 ∷ 32 ∷ 28 ∷ 27 ∷ 26 ∷ 25 ∷ 24 ∷ 23 ∷ 22 ∷ 21 ∷ 20 ∷ 19 ∷
-        17 ∷ []) $
-        by ! (ex r zs (e (p3 .now) ef refl) (parts r w is .0) l8 l9 l10 l11 l12 l13 l14 l15
-        l16))))))))))))))))))))))))))))))))))))))))))))))))))))))))))))))
+        move ! (1 ∷ []) $ split ! $ move ! (1 ∷ []) $ split ! $ move ! (1 ∷ []) $ split ! $ move ! (1 ∷ []) $
+        returns ! (look ! 115 refl) $ forget ! 35 refl $ forget ! 37 refl $ forget ! 39 refl $ forget ! 41 refl $ forget ! 43 refl $
+        forget ! 45 refl $ forget ! 47 refl $ forget ! 49 refl $ forget ! 51 refl $ forget ! 53 refl $ forget ! 55 refl $ forget ! 57 refl $
+        forget ! 59 refl $ forget ! 61 refl $ forget ! 63 refl $ forget ! 65 refl $ forget ! 67 refl $ forget ! 69 refl $ forget ! 71 refl $
+        forget ! 73 refl $ forget ! 75 refl $ forget ! 77 refl $ forget ! 79 refl $ forget ! 81 refl $ forget ! 83 refl $ forget ! 85 refl $
+        forget ! 87 refl $ forget ! 89 refl $ forget ! 91 refl $ forget ! 93 refl $ forget ! 95 refl $ forget ! 97 refl $ forget ! 99 refl $
+        forget ! 101 refl $ forget ! 103 refl $ forget ! 105 refl $ forget ! 107 refl $ forget ! 109 refl $ forget ! 111 refl $ forget ! 113 refl $
+        forget ! 115 refl $
+        move ! (115 ∷ 116 ∷ []) $ free1 ! $ move ! (113 ∷ 114 ∷ []) $ free1 ! $ move ! (111 ∷ 112 ∷ []) $ free1 ! $ move ! (109 ∷ 110 ∷ []) $
+        free1 ! $ move ! (107 ∷ 108 ∷ []) $ free1 ! $ move ! (105 ∷ 106 ∷ []) $ free1 ! $ move ! (103 ∷ 104 ∷ []) $ free1 ! $
+        move ! (101 ∷ 102 ∷ []) $ free1 ! $ move ! (99 ∷ 100 ∷ []) $ free1 ! $ move ! (97 ∷ 98 ∷ []) $ free1 ! $ move ! (95 ∷ 96 ∷ []) $ free1 ! $
+        move ! (93 ∷ 94 ∷ []) $ free1 ! $ move ! (91 ∷ 92 ∷ []) $ free1 ! $ move ! (89 ∷ 90 ∷ []) $ free1 ! $ move ! (87 ∷ 88 ∷ []) $ free1 ! $
+        move ! (85 ∷ 86 ∷ []) $ free1 ! $ move ! (83 ∷ 84 ∷ []) $ free1 ! $ move ! (81 ∷ 82 ∷ []) $ free1 ! $ move ! (79 ∷ 80 ∷ []) $ free1 ! $
+        move ! (77 ∷ 78 ∷ []) $ free1 ! $ move ! (75 ∷ 76 ∷ []) $ free1 ! $ move ! (73 ∷ 74 ∷ []) $ free1 ! $ move ! (71 ∷ 72 ∷ []) $ free1 ! $
+        move ! (69 ∷ 70 ∷ []) $ free1 ! $ move ! (67 ∷ 68 ∷ []) $ free1 ! $ move ! (65 ∷ 66 ∷ []) $ free1 ! $ move ! (63 ∷ 64 ∷ []) $ free1 ! $
+        move ! (61 ∷ 62 ∷ []) $ free1 ! $ move ! (59 ∷ 60 ∷ []) $ free1 ! $ move ! (57 ∷ 58 ∷ []) $ free1 ! $ move ! (55 ∷ 56 ∷ []) $ free1 ! $
+        move ! (53 ∷ 54 ∷ []) $ free1 ! $ move ! (51 ∷ 52 ∷ []) $ free1 ! $ move ! (49 ∷ 50 ∷ []) $ free1 ! $ move ! (47 ∷ 48 ∷ []) $ free1 ! $
+        move ! (45 ∷ 46 ∷ []) $ free1 ! $ move ! (43 ∷ 44 ∷ []) $ free1 ! $ move ! (41 ∷ 42 ∷ []) $ free1 ! $ move ! (39 ∷ 40 ∷ []) $ free1 ! $
+        move ! (37 ∷ 38 ∷ []) $ free1 ! $ move ! (35 ∷ 36 ∷ []) $ free1 ! $ free0 ! $
+        keep ! (14 ∷ 15 ∷ 13 ∷ 32 ∷ 12 ∷ 11 ∷ 10 ∷ 16 ∷ 9 ∷ 8 ∷ 7 ∷ 6 ∷ 5 ∷ 4 ∷ 3 ∷ 2 ∷ 1 ∷ 31 ∷ 34 ∷ 30 ∷ 29 ∷ 28 ∷ 27 ∷ 26 ∷ 25 ∷ 24 ∷ 23 ∷ 22 ∷
+        21 ∷ 20 ∷ 18 ∷ []) $
+        by ! (ex r zs (e (p3 .now) ef refl) (parts r w is .0) l9 l10 l11 l12 l13 l14 l15 l16
+        l17)))))))))))))))))))))))))))))))))))))))))))))))))))))))))))))))
 
 module _ {M : Type 1} (𝓤 : URA M) (H : Heap 𝓤) (A : Atoms 𝓤) (W : Given 𝓤 H A) (mem : Memory → SProp 𝓤) (run : Routine → Fun 𝓤) (𝓣 : Tables 𝓤 H)
     (known : Triple 𝓤 (𝓣 .C #core) (Core 𝓤 H A mem run)) (fknown : Triple 𝓤 (𝓣 .C #flat) (Flat 𝓤 H A mem run)) where
@@ -791,12 +829,15 @@ module _ {M : Type 1} (𝓤 : URA M) (H : Heap 𝓤) (A : Atoms 𝓤) (W : Given
                 (
                   slice-vals,
                   (
-                    ptr-vals,
+                    slice-vals,
                     (
-                      uint-vals w32,
+                      ptr-vals,
                       (
-                        slice-vals,
-                        (slice-vals, (slice-vals, (slice-vals, (slice-vals, (slice-vals, (slice-vals, (slice-vals, (slice-vals, tt)))))))),
+                        uint-vals w32,
+                        (
+                          slice-vals,
+                          (slice-vals, (slice-vals, (slice-vals, (slice-vals, (slice-vals, (slice-vals, (slice-vals, (slice-vals, tt)))))))),
+                        ),
                       ),
                     ),
                   ),
@@ -819,26 +860,29 @@ module _ {M : Type 1} (𝓤 : URA M) (H : Heap 𝓤) (A : Atoms 𝓤) (W : Given
                 (
                   shr-slice-tells (named 3) (κs .1 .1 .1 .0) u8,
                   (
-                    mut-tells (named 4) (κs .1 .1 .1 .1 .0) Recordᵀ.the-row,
+                    shr-slice-tells (named 4) (κs .1 .1 .1 .1 .0) i32,
                     (
-                      uint-tells w32,
+                      mut-tells (named 5) (κs .1 .1 .1 .1 .1 .0) Recordᵀ.the-row,
                       (
-                        mut-slice-tells (named 5) (κs .1 .1 .1 .1 .1 .0) i32,
+                        uint-tells w32,
                         (
-                          mut-slice-tells (named 6) (κs .1 .1 .1 .1 .1 .1 .0) u8,
+                          mut-slice-tells (named 6) (κs .1 .1 .1 .1 .1 .1 .0) i32,
                           (
-                            mut-slice-tells (named 7) (κs .1 .1 .1 .1 .1 .1 .1 .0) u32,
+                            mut-slice-tells (named 7) (κs .1 .1 .1 .1 .1 .1 .1 .0) u8,
                             (
                               mut-slice-tells (named 8) (κs .1 .1 .1 .1 .1 .1 .1 .1 .0) u32,
                               (
                                 mut-slice-tells (named 9) (κs .1 .1 .1 .1 .1 .1 .1 .1 .1 .0) u32,
                                 (
-                                  mut-slice-tells (named 10) (κs .1 .1 .1 .1 .1 .1 .1 .1 .1 .1 .0) u16,
+                                  mut-slice-tells (named 10) (κs .1 .1 .1 .1 .1 .1 .1 .1 .1 .1 .0) u32,
                                   (
                                     mut-slice-tells (named 11) (κs .1 .1 .1 .1 .1 .1 .1 .1 .1 .1 .1 .0) u16,
                                     (
                                       mut-slice-tells (named 12) (κs .1 .1 .1 .1 .1 .1 .1 .1 .1 .1 .1 .1 .0) u16,
-                                      (mut-slice-tells (named 13) (κs .1 .1 .1 .1 .1 .1 .1 .1 .1 .1 .1 .1 .1 .0) u32, tt),
+                                      (
+                                        mut-slice-tells (named 13) (κs .1 .1 .1 .1 .1 .1 .1 .1 .1 .1 .1 .1 .1 .0) u16,
+                                        (mut-slice-tells (named 14) (κs .1 .1 .1 .1 .1 .1 .1 .1 .1 .1 .1 .1 .1 .1 .0) u32, tt),
+                                      ),
                                     ),
                                   ),
                                 ),
@@ -856,50 +900,55 @@ module _ {M : Type 1} (𝓤 : URA M) (H : Heap 𝓤) (A : Atoms 𝓤) (W : Given
         ),
       ))
       (λ κs qs bounds a g are. via 𝓤 _ (fst∗ 𝓤 _ (emp 𝓤)) (walk 𝓤 H A W mem run κs qs a (are .0) (are .1 .0) (are .1 .1 .0 .0 .1)
-      (are .1 .1 .1 .0 .0 .1) (are .1 .1 .1 .1 .0 .0 .1) (are .1 .1 .1 .1 .1 .0 .0 .1) (are .1 .1 .1 .1 .1 .1 .1 .0)
-      (are .1 .1 .1 .1 .1 .1 .1 .1 .0 .0 .1) (are .1 .1 .1 .1 .1 .1 .1 .1 .1 .0 .0 .1) (are .1 .1 .1 .1 .1 .1 .1 .1 .1 .1 .0 .0 .1)
+      (are .1 .1 .1 .0 .0 .1) (are .1 .1 .1 .1 .0 .0 .1) (are .1 .1 .1 .1 .1 .0 .0 .1) (are .1 .1 .1 .1 .1 .1 .0 .0 .1)
+      (are .1 .1 .1 .1 .1 .1 .1 .1 .0) (are .1 .1 .1 .1 .1 .1 .1 .1 .1 .0 .0 .1) (are .1 .1 .1 .1 .1 .1 .1 .1 .1 .1 .0 .0 .1)
       (are .1 .1 .1 .1 .1 .1 .1 .1 .1 .1 .1 .0 .0 .1) (are .1 .1 .1 .1 .1 .1 .1 .1 .1 .1 .1 .1 .0 .0 .1)
       (are .1 .1 .1 .1 .1 .1 .1 .1 .1 .1 .1 .1 .1 .0 .0 .1) (are .1 .1 .1 .1 .1 .1 .1 .1 .1 .1 .1 .1 .1 .1 .0 .0 .1)
       (are .1 .1 .1 .1 .1 .1 .1 .1 .1 .1 .1 .1 .1 .1 .1 .0 .0 .1) (are .1 .1 .1 .1 .1 .1 .1 .1 .1 .1 .1 .1 .1 .1 .1 .1 .0 .0 .1)
+      (are .1 .1 .1 .1 .1 .1 .1 .1 .1 .1 .1 .1 .1 .1 .1 .1 .1 .0 .0 .1)
       (𝓣 .C) (𝓣 .Λ) (fmOf 𝓤 H (W .laws) 𝓣) known fknown _ (exits 𝓤 H A W mem run κs qs a (are .0) (are .1 .0) (are .1 .1 .0 .0 .1)
-      (are .1 .1 .1 .0 .0 .1) (are .1 .1 .1 .1 .0 .0 .1) (are .1 .1 .1 .1 .1 .0 .0 .1) (are .1 .1 .1 .1 .1 .1 .1 .0)
-      (are .1 .1 .1 .1 .1 .1 .1 .1 .0 .0 .1) (are .1 .1 .1 .1 .1 .1 .1 .1 .1 .0 .0 .1) (are .1 .1 .1 .1 .1 .1 .1 .1 .1 .1 .0 .0 .1)
+      (are .1 .1 .1 .0 .0 .1) (are .1 .1 .1 .1 .0 .0 .1) (are .1 .1 .1 .1 .1 .0 .0 .1) (are .1 .1 .1 .1 .1 .1 .0 .0 .1)
+      (are .1 .1 .1 .1 .1 .1 .1 .1 .0) (are .1 .1 .1 .1 .1 .1 .1 .1 .1 .0 .0 .1) (are .1 .1 .1 .1 .1 .1 .1 .1 .1 .1 .0 .0 .1)
       (are .1 .1 .1 .1 .1 .1 .1 .1 .1 .1 .1 .0 .0 .1) (are .1 .1 .1 .1 .1 .1 .1 .1 .1 .1 .1 .1 .0 .0 .1)
       (are .1 .1 .1 .1 .1 .1 .1 .1 .1 .1 .1 .1 .1 .0 .0 .1) (are .1 .1 .1 .1 .1 .1 .1 .1 .1 .1 .1 .1 .1 .1 .0 .0 .1)
-      (are .1 .1 .1 .1 .1 .1 .1 .1 .1 .1 .1 .1 .1 .1 .1 .0 .0 .1) (are .1 .1 .1 .1 .1 .1 .1 .1 .1 .1 .1 .1 .1 .1 .1 .1 .0 .0 .1))))
+      (are .1 .1 .1 .1 .1 .1 .1 .1 .1 .1 .1 .1 .1 .1 .1 .0 .0 .1) (are .1 .1 .1 .1 .1 .1 .1 .1 .1 .1 .1 .1 .1 .1 .1 .1 .0 .0 .1)
+      (are .1 .1 .1 .1 .1 .1 .1 .1 .1 .1 .1 .1 .1 .1 .1 .1 .1 .0 .0 .1))))
 
   f-meets : Meets 𝓤 H A f.signature (WpFn 𝓤 H (𝓣 .C) (𝓣 .Λ) code.function) (f.spec 𝓤 H A mem run)
   f-meets = walk-meets 𝓤 H A f.ended stayed W (
-    goes-none 𝓤 H A W 14 (λ _. Queryᵀ.the-row) yes (λ κs x f. refl),
+    goes-none 𝓤 H A W 15 (λ _. Queryᵀ.the-row) yes (λ κs x f. refl),
     (
-      goes-none 𝓤 H A W 14 (λ _. Limitsᵀ.the-row) yes (λ κs x f. refl),
+      goes-none 𝓤 H A W 15 (λ _. Limitsᵀ.the-row) yes (λ κs x f. refl),
       (
-        goes-none-slice 𝓤 H A W 14 (0 ∷ []) tt (plain (λ _. u32)) yes,
+        goes-none-slice 𝓤 H A W 15 (0 ∷ []) tt (plain (λ _. u32)) yes,
         (
-          goes-none-slice 𝓤 H A W 14 (1 ∷ []) tt (plain (λ _. Placementᵀ.the-row)) yes,
+          goes-none-slice 𝓤 H A W 15 (1 ∷ []) tt (plain (λ _. Placementᵀ.the-row)) yes,
           (
-            goes-none-slice 𝓤 H A W 14 (2 ∷ []) tt (plain (λ _. u8)) yes,
+            goes-none-slice 𝓤 H A W 15 (2 ∷ []) tt (plain (λ _. u8)) yes,
             (
-              goes-none-slice 𝓤 H A W 14 (3 ∷ []) tt (plain (λ _. u8)) yes,
+              goes-none-slice 𝓤 H A W 15 (3 ∷ []) tt (plain (λ _. u8)) yes,
               (
-                goes-ref 𝓤 H A W 14 4 tt (plain (λ _. Recordᵀ.the-row)),
+                goes-none-slice 𝓤 H A W 15 (4 ∷ []) tt (plain (λ _. i32)) yes,
                 (
-                  goes-none 𝓤 H A W 14 (λ _. u32) yes (λ κs x f. refl),
+                  goes-ref 𝓤 H A W 15 5 tt (plain (λ _. Recordᵀ.the-row)),
                   (
-                    goes-gave-slice 𝓤 H A W 14 5 tt (plain (λ _. i32)),
+                    goes-none 𝓤 H A W 15 (λ _. u32) yes (λ κs x f. refl),
                     (
-                      goes-gave-slice 𝓤 H A W 14 6 tt (plain (λ _. u8)),
+                      goes-gave-slice 𝓤 H A W 15 6 tt (plain (λ _. i32)),
                       (
-                        goes-gave-slice 𝓤 H A W 14 7 tt (plain (λ _. u32)),
+                        goes-gave-slice 𝓤 H A W 15 7 tt (plain (λ _. u8)),
                         (
-                          goes-gave-slice 𝓤 H A W 14 8 tt (plain (λ _. u32)),
+                          goes-gave-slice 𝓤 H A W 15 8 tt (plain (λ _. u32)),
                           (
-                            goes-gave-slice 𝓤 H A W 14 9 tt (plain (λ _. u32)),
+                            goes-gave-slice 𝓤 H A W 15 9 tt (plain (λ _. u32)),
                             (
-                              goes-gave-slice 𝓤 H A W 14 10 tt (plain (λ _. u16)),
+                              goes-gave-slice 𝓤 H A W 15 10 tt (plain (λ _. u32)),
                               (
-                                goes-gave-slice 𝓤 H A W 14 11 tt (plain (λ _. u16)),
-                                (goes-gave-slice 𝓤 H A W 14 12 tt (plain (λ _. u16)), (goes-gave-slice 𝓤 H A W 14 13 tt (plain (λ _. u32)), tt)),
+                                goes-gave-slice 𝓤 H A W 15 11 tt (plain (λ _. u16)),
+                                (
+                                  goes-gave-slice 𝓤 H A W 15 12 tt (plain (λ _. u16)),
+                                  (goes-gave-slice 𝓤 H A W 15 13 tt (plain (λ _. u16)), (goes-gave-slice 𝓤 H A W 15 14 tt (plain (λ _. u32)), tt)),
+                                ),
                               ),
                             ),
                           ),

@@ -1,0 +1,2 @@
+-- The laws of the walk over a table of steps.
+mod Counting
