@@ -42,6 +42,8 @@
  *          same as if every count that is not zero were 1. allow_base is not looked at where there is no mover to let pass.
  *  STEPS   steps: the order in which a route tries the eight steps from each centre. HITROVZEN_STEPS numbers, no fewer and no more:
  *          eight x, y pairs, in which each of the eight steps stands exactly once. HITROVZEN_ORIGINAL_STEPS is the original's order.
+ *          The route has the fewest points that any chain of steps over open centres has from start to end, and of all with as few it
+ *          is the first in this order: where another one first leaves it, the route's own step stands earlier in the table.
  *          With another order a search may keep other routes, list its walls in another sequence and evaluate more sets or fewer, so
  *          that a limit may stop it with other walls. But two searches alike except for steps and limits list the same walls where
  *          both stop Exhausted; and baselines, verdicts and the ground left are the same with every order.

@@ -210,9 +210,12 @@ impl Limits {
 
 /// The eight steps, x and y, in the order in which the original tries them: the straight ones before the diagonal ones.
 ///
-/// A route tries them in the order of [`Plan::steps`], which may be any other order of the same eight. With another order a search
-/// may keep other routes, list its walls in another sequence and evaluate more sets or fewer, so that a limit may stop it with other
-/// walls. But two searches alike except for steps and limits list the same walls where both stop
+/// A route tries them in the order of [`Plan::steps`], which may be any other order of the same eight. It has the fewest points that
+/// any chain of steps over open centres has from start to end, and of all with as few it is the first in that order: where another one
+/// first leaves it, the route's own step stands earlier in `steps`.
+///
+/// With another order a search may keep other routes, list its walls in another sequence and evaluate more sets or fewer, so that a
+/// limit may stop it with other walls. But two searches alike except for steps and limits list the same walls where both stop
 /// [`Exhausted`](crate::Reason::Exhausted); and baselines, verdicts and the ground left are the same with every order.
 ///
 /// # Examples

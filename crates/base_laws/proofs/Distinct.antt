@@ -69,6 +69,19 @@ module _ {A : Type 0} where
       (λ m. let a = Memᴰ·of-map f l m in n (Memᴰ·cast (inj x (a .0) (List·Memᴰ·head refl) (List·Memᴰ·tail (a .1)) (sym (a .2))) (a .1)))
       (distinct-map f (λ a b p q. inj a b (List·Memᴰ·tail p) (List·Memᴰ·tail q)) d)
 
+  -- no value of a part of the list stands twice where none of the list does
+  pub distinct-map-filter : {B : Type 0} (f : A → B) (p : A → Bool) (l : List A) → Distinct (map f l) → Distinct (map f (select p l))
+  unfolding select
+  distinct-map-filter f p [] d = d
+  distinct-map-filter f p (x ∷ l) (fresh n d) =
+      either (p x)
+      (λ t.
+      rw (select, t)
+      (fresh
+      (λ m. let o = Memᴰ·of-map f (select p l) m in n (Memᴰ·cast (sym (o .2)) (Memᴰ·map f (filter-out p l (o .0) (o .1) .0))))
+      (distinct-map-filter f p l d)))
+      (λ e. rw (select, e) (distinct-map-filter f p l d))
+
   -- where no value stands twice, the values tell the members apart
   pub map-apart : {B : Type 0} (f : A → B) (l : List A) → Distinct (map f l) → (x y : A) → List·Memᴰ x l → List·Memᴰ y l → f x ≡ f y → x ≡ y
   map-apart f [] d x y p q e = absurd (List·Memᴰ·not-nil p)

@@ -102,6 +102,9 @@ eq-parts (pos a) (negsuc b) h = absurd (omega arith)
 eq-parts (negsuc a) (pos b) h = absurd (omega arith)
 eq-parts (negsuc a) (negsuc b) h = ap negsuc (omega arith)
 
+pub sum-minus : (a b : ℤ) → a +ℤ b -ℤ a ≡ b
+sum-minus a b = eq-parts (a +ℤ b -ℤ a) b (omega (arith, minus-parts (a +ℤ b) a, add-parts a b))
+
 pub mag-parts : (z : ℤ) (H : ℕ) → up z < dn z + H → dn z ≤ up z + H → mag z < H
 mag-parts (pos n) H p q = omega arith
 mag-parts (negsuc n) H p q = omega arith

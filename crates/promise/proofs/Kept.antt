@@ -26,7 +26,7 @@ use Rattle.rule_layouts.specs.Explore.{allowedRoute}
 use Rattle.rule_layouts.specs.Inputs.{Inputs, exchanged, boardOf}
 use Rattle.rule_layouts.specs.Walls.{IsWall}
 use Rattle.rule_layouts.proofs.SameWalls.{wall-turned, wall-steps}
-use Rattle.rule_layouts.proofs.Regular.{regular-board, board-exchanged}
+use Rattle.rule_layouts.proofs.Regular.{regular-board, board-first, board-exchanged}
 use Rattle.rule_search.specs.State.{Exhausted, Layout, State}
 use Rattle.rule_search.specs.Formed.{Good}
 use Rattle.rule_search.proofs.Found.{sets, members-of}
@@ -148,6 +148,7 @@ module _ (table : List ℤ) (fits : tableFits table ≡ true) (i : Inputs) (l : 
               route = r;
               found = e;
               road = route-is-road (g .edges) (g .nodes) (laid .within) (leavesOpen m w) (g .start) (g .end) (laid .from) r e;
+              first = board-first (stepsOf table) i (table-once table fits) (fair .startIn) m w .exactly r .0 e;
               given = refl;
             }
 

@@ -1,6 +1,6 @@
 -- The promise (RULES 10, 14), one claim about a whole list of calls: after an accepted begin and any list of steps and readings, every layout is a wall, none is listed
--- twice, every accepted reading has handed back the allowed mover's route, and if the reason is then Exhausted the layouts are exactly the walls: the same ones by another
--- table of steps, and from end to start.
+-- twice, every accepted reading has handed back the allowed mover's route, the first of the shortest ways by the table, and if the reason is then Exhausted the layouts are
+-- exactly the walls: the same ones by another table of steps, and from end to start.
 use Prim.Native.Nat.{ℕ, _<_}
 use mathlib.Core.Path.{_≡_}
 use mathlib.Core.Logic.{_↔_}
@@ -10,9 +10,10 @@ use lib.IntN.{ℤ}
 use Rattle.base_model.specs.Answers.{Said}
 use Rattle.base_model.specs.declared.Limits.{Limits}
 use Rattle.base_model.specs.declared.Record.{Record}
-use Rattle.ground_rects.specs.Windows.{positionOf}
+use Rattle.ground_rects.specs.Windows.{width, positionOf}
 use Rattle.rule_routes.specs.Edges.{stepsOf}
 use Rattle.rule_routes.specs.Roads.{Road}
+use Rattle.rule_routes.specs.Shortest.{BySteps, FirstWay}
 use Rattle.rule_layouts.specs.Boards.{Mover, leavesOpen, routePast}
 use Rattle.rule_layouts.specs.Inputs.{Inputs, exchanged, boardOf}
 use Rattle.rule_layouts.specs.Walls.{IsWall}
@@ -105,11 +106,14 @@ module _ (table : List ℤ) where
     ends = run begins (s .calls)
 
   -- ---- readings
-  -- the points are those of the mover's route past the wall, in map pixels; the route leads from start to end over centres that the wall leaves open to it
+  -- the points are those of the mover's route past the wall, in map pixels; the route leads from start to end over centres that the wall leaves open to it, and is the
+  -- first of the shortest ways by the table
   pub record RouteGiven (i : Inputs) (m : Mover) (wall points : List ℕ) : Type 0 where
     pub route : List ℕ
     pub found : routePast (boardOf (stepsOf table) i) m wall ≡ some route
     pub road : Road (boardOf (stepsOf table) i .edges) (boardOf (stepsOf table) i .nodes) (leavesOpen m wall) (boardOf (stepsOf table) i .start) (boardOf (stepsOf table) i .end) route
+    pub first : FirstWay (BySteps (width (i .query .window)) (stepsOf table)) (boardOf (stepsOf table) i .edges) (leavesOpen m wall)
+        (boardOf (stepsOf table) i .start) (boardOf (stepsOf table) i .end) route
     pub given : points ≡ numbers (map (positionOf (i .query .window)) route)
 
   -- the allowed mover's route past the wall, or nothing if there is no allowed mover

@@ -14,11 +14,12 @@ use lib.ListN.{length, getD, set, length-set}
 use lib.Seq.{getD-set-same, getD-set-other, take-suc-set, drop-set-lt, set-set, set-getD}
 use Rattle.base_laws.specs.Lists.{isSome}
 use Rattle.rule_routes.specs.Routes.{Route, Searched, anyRoute, discover, sweep}
+use Rattle.rule_routes.proofs.SearchLaws.{search-stop, search-next, search-done}
 use Rattle.route_step.specs.Areas.{Area, tried, marks}
 use Rattle.route_back.specs.Ways.{Traced, Traced·home}
 use Rattle.route_find.specs.Results.{SearchLent, StopsAt, SearchLeft, SearchFound}
 use Rattle.route_step.proofs.Marks.{marks-more, marks-zero, tail-le, tried-tail}
-use Rattle.route_find.proofs.Turns.{On, mem-at, search-stop, search-next, search-done}
+use Rattle.route_find.proofs.Turns.{On, mem-at}
 use Rattle.route_find.proofs.Clears.{clear-room, clear-at}
 use Rattle.route_find.proofs.Simulation.{ends, Sim, sim-node, sim-tried}
 

@@ -1,17 +1,16 @@
--- The definition's search by its cases: which nodes are known, and what one turn does.
+-- The definition's search by its cases: which nodes are known, and what trying a neighbour does.
 use mathlib.Core.Path.{_≡_, refl, sym, ap, _∙_}
-use mathlib.Core.Bool.{Bool, true, false, true≢false}
+use mathlib.Core.Bool.{true, false, true≢false}
 use mathlib.Core.Logic.{⊎-elim}
-use mathlib.Core.Option.{none, some}
 use mathlib.Core.List.{List, [], _∷_, _++_, List·Memᴰ, List·Memᴰ·head, List·Memᴰ·tail, List·Memᴰ·cases-cons, List·Memᴰ·not-nil, Memᴰ·append-left}
-use Prim.Native.Nat.{ℕ, zero, suc, _≤_, _<_}
+use Prim.Native.Nat.{ℕ, zero, suc, _<_}
 use native.Mathlib.Nat.{le-of-suc-le-suc, not-suc-le-zero}
 use lib.Dec.{eqb}
-use borrow.Author.Tests.{eqb-true, eqb-false, lt-ltb, le-ltb}
+use borrow.Author.Tests.{eqb-true, eqb-false}
 use lib.ListN.{length, getD}
 use Rattle.base_laws.specs.Lists.{anyOf}
 use Rattle.base_laws.proofs.Members.{either}
-use Rattle.rule_routes.specs.Routes.{Route, anyRoute, onward, known, discover, sweep}
+use Rattle.rule_routes.specs.Routes.{Route, onward, known, discover}
 
 -- one of the routes ends at v
 abbrev pub On : ℕ → List Route → Type 0
@@ -53,20 +52,3 @@ extend-old r v vs found e = rw (discover, e)
 pub extend-new : (r : Route) (v : ℕ) (vs : List ℕ) (found : List Route) → known v found ≡ false → discover r (v ∷ vs) found ≡ discover r vs (found ++ onward r v ∷ [])
 unfolding discover
 extend-new r v vs found e = rw (discover, e)
-
--- one turn
-module _ (nbrs : ℕ → List ℕ) (stops : ℕ → Bool) where
-  pub search-stop : (turns k : ℕ) (found : List Route) → k < length found → stops (getD found k anyRoute .at) ≡ true
-      → sweep nbrs stops (suc turns) k found ≡ record { hit = some (getD found k anyRoute); found = found }
-  unfolding sweep
-  search-stop turns k found h e = rw (sweep, lt-ltb k (length found) h, e)
-
-  pub search-next : (turns k : ℕ) (found : List Route) → k < length found → stops (getD found k anyRoute .at) ≡ false
-      → sweep nbrs stops (suc turns) k found ≡ sweep nbrs stops turns (suc k) (discover (getD found k anyRoute) (nbrs (getD found k anyRoute .at)) found)
-  unfolding sweep
-  search-next turns k found h e = rw (sweep, lt-ltb k (length found) h, e)
-
-  pub search-done : (turns k : ℕ) (found : List Route) → length found ≤ k → sweep nbrs stops turns k found ≡ record { hit = none; found = found }
-  unfolding sweep
-  search-done zero k found h = refl
-  search-done (suc turns) k found h = rw (sweep, le-ltb k (length found) h)

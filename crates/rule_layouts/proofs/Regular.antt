@@ -1,5 +1,6 @@
--- The board of a window is regular, for ends in the window and any order of the eight steps; and a regular board is so with its ends exchanged.
-use Prim.Native.Nat.{_<_}
+-- The board of a window is regular, for ends in the window and any order of the eight steps, and the routes over it are the first ways by that order; and a regular
+-- board stays regular with its ends exchanged.
+use Prim.Native.Nat.{ℕ, _<_}
 use mathlib.Core.Path.{_≡_, refl, sym, _∙_, ap}
 use mathlib.Core.Bool.{Bool, true, _&&_, and-comm, and-assoc}
 use mathlib.Core.List.{List}
@@ -16,8 +17,10 @@ use Rattle.base_model.specs.declared.Position.{Position}
 use Rattle.ground_rects.specs.Rects.{has, intersects}
 use Rattle.ground_rects.specs.Windows.{width, height, centres, inWindow, centreAt}
 use Rattle.rule_routes.specs.Edges.{Step, eachOnce}
+use Rattle.rule_routes.specs.Shortest.{BySteps, RouteIsFirst}
 use Rattle.rule_routes.proofs.WindowLaws.{window-within, window-paired, window-one-edge}
-use Rattle.rule_layouts.specs.Boards.{Board}
+use Rattle.rule_routes.proofs.RouteFirst.{window-is-first}
+use Rattle.rule_layouts.specs.Boards.{Mover, Board, leavesOpen}
 use Rattle.rule_layouts.specs.Inputs.{Inputs, exchanged, noPlace, placesOf, boardOf}
 use Rattle.rule_layouts.specs.Regular.{Regular, turned}
 
@@ -64,6 +67,14 @@ regular-board steps i once from to =
       to = centreAt-below w (i .query .end) to;
       mutual-overlap = λ j k. intersects-comm (getD (i .places) j noPlace .footprint) (getD (i .places) k noPlace .footprint);
     }
+
+-- the route past a set is the first of the shortest ways over what it leaves open, by the table
+pub board-first : (steps : List Step) (i : Inputs) → eachOnce steps ≡ true → inWindow (i .query .window) (i .query .start) ≡ true → (m : Mover) (s : List ℕ)
+    → RouteIsFirst (BySteps (width (i .query .window)) steps) (boardOf steps i .edges) (boardOf steps i .nodes) (leavesOpen m s) (boardOf steps i .start) (boardOf steps i .end)
+unfolding boardOf centres
+board-first steps i once from m s =
+    let w = i .query .window in
+    window-is-first (width w) (height w) steps once (leavesOpen m s) (centreAt w (i .query .start)) (centreAt w (i .query .end)) (centreAt-below w (i .query .start) from)
 
 -- exchanged inputs lay the board with its ends exchanged
 pub board-exchanged : (steps : List Step) (i : Inputs) → boardOf steps (exchanged i) ≡ turned (boardOf steps i)

@@ -1,7 +1,8 @@
--- Computed cases that a wrong definition fails: tables, edges, routes, how many centres have one and what they lean on in small windows, and centre numbers past 65,535.
-use Prim.Native.Nat.{ℕ, _*_}
+-- Computed cases that a wrong definition fails, in small windows: tables, edges, routes and all ways beside them, the steps between centres, how many centres have a route
+-- and what routes lean on; and centre numbers past 65,535.
+use Prim.Native.Nat.{ℕ, suc, _*_}
 use mathlib.Core.Path.{_≡_, refl}
-use mathlib.Core.Bool.{Bool, true, false, not}
+use mathlib.Core.Bool.{Bool, true, false, not, false≢true}
 use mathlib.Core.Option.{Option, none, some}
 use mathlib.Core.List.{List, [], _∷_, _++_, map}
 use lib.IntN.{ℤ, pos, negsuc}
@@ -9,6 +10,8 @@ use lib.ListN.{take, drop, replicate}
 use Rattle.base_laws.specs.Lists.{anyOf, allOf, select, flat, isSome, span, below, member}
 use Rattle.rule_routes.specs.Edges.{Edge, stepBy, eightSteps, stepsOf, eqZ, sameStep, eachOnce, tableFits, originalSteps, centre, inside, sidesFrom, edgeBy, edgesFrom, windowEdges}
 use Rattle.rule_routes.specs.Routes.{neighbours, known, onward, discover, sweep, searchFrom, anyRoute, nodesOf, route, reachCount, sidesOf, leansOn}
+use Rattle.rule_routes.specs.Shortest.{stepBetween, Way}
+use Rattle.rule_routes.proofs.AllWalks.{walksOf}
 
 -- all centres but these are open
 openBut : List ℕ → ℕ → Bool
@@ -58,14 +61,60 @@ onceEach : map (λ (table : List ℤ). eachOnce (stepsOf table)) (originalSteps 
 unfolding originalSteps eachOnce stepsOf eightSteps stepBy sameStep eqZ allOf select
 onceEach = refl
 
--- in an open window of 4 × 4, from the first centre of row 1 to its last: straight on by the original's order, a row down and up again by the diagonals first
-byTable : List ℤ → Option (List ℕ)
-byTable table = route (windowEdges 4 4 (stepsOf table)) 16 (openBut []) 4 7
+-- ---- what an order means
+routeBy : List ℤ → (width height : ℕ) (shut : List ℕ) (start end : ℕ) → Option (List ℕ)
+routeBy table width height shut start end = route (windowEdges width height (stepsOf table)) (width * height) (openBut shut) start end
 
-ordered : (byTable originalSteps ≡ some (4 ∷ 5 ∷ 6 ∷ 7 ∷ [])) × (byTable diagonalsFirst ≡ some (4 ∷ 9 ∷ 6 ∷ 7 ∷ []))
-unfolding byTable openBut windowEdges edgesFrom edgeBy sidesFrom inside centre eqZ originalSteps diagonalsFirst stepsOf stepBy anyOf allOf select member neighbours known onward discover
-    sweep searchFrom anyRoute nodesOf route
-ordered = (refl, refl)
+-- in a window of 4 × 4, all ways with at most so many steps: those with fewer first, and else in the table's order
+waysBy : List ℤ → (shut : List ℕ) (start end most : ℕ) → List (List ℕ)
+waysBy table shut start end most =
+    elim (openBut shut start) [
+      | true ↦ flat (map (λ (k : ℕ). walksOf (neighbours (windowEdges 4 4 (stepsOf table)) (openBut shut)) k start end) (below (suc most)))
+      | false ↦ []
+    ]
+
+-- r is the route and the first of the ways with at most so many steps, and these are the others: all shortest ways, where r has so many steps
+abbrev RouteAmong : List ℤ → (shut : List ℕ) (start end most : ℕ) → (r : List ℕ) (others : List (List ℕ)) → Type 0
+RouteAmong table shut start end most r others = (routeBy table 4 4 shut start end ≡ some r) × (waysBy table shut start end most ≡ r ∷ others)
+
+-- From the first centre of row 1 to its last: over open ground; with the centre beside the start blocked; and equal ends. By the original's order and by the diagonals
+-- first.
+ordered : RouteAmong originalSteps [] 4 7 3 (4 ∷ 5 ∷ 6 ∷ 7 ∷ [])
+    ((4 ∷ 5 ∷ 10 ∷ 7 ∷ []) ∷ (4 ∷ 5 ∷ 2 ∷ 7 ∷ []) ∷ (4 ∷ 9 ∷ 10 ∷ 7 ∷ []) ∷ (4 ∷ 9 ∷ 6 ∷ 7 ∷ []) ∷ (4 ∷ 1 ∷ 2 ∷ 7 ∷ []) ∷ (4 ∷ 1 ∷ 6 ∷ 7 ∷ []) ∷ [])
+    × RouteAmong diagonalsFirst [] 4 7 3 (4 ∷ 9 ∷ 6 ∷ 7 ∷ [])
+    ((4 ∷ 9 ∷ 10 ∷ 7 ∷ []) ∷ (4 ∷ 1 ∷ 6 ∷ 7 ∷ []) ∷ (4 ∷ 1 ∷ 2 ∷ 7 ∷ []) ∷ (4 ∷ 5 ∷ 10 ∷ 7 ∷ []) ∷ (4 ∷ 5 ∷ 2 ∷ 7 ∷ []) ∷ (4 ∷ 5 ∷ 6 ∷ 7 ∷ []) ∷ [])
+    × RouteAmong originalSteps (5 ∷ []) 4 7 4 (4 ∷ 8 ∷ 9 ∷ 10 ∷ 7 ∷ []) ((4 ∷ 8 ∷ 13 ∷ 10 ∷ 7 ∷ []) ∷ (4 ∷ 0 ∷ 1 ∷ 2 ∷ 7 ∷ []) ∷ [])
+    × RouteAmong diagonalsFirst (5 ∷ []) 4 7 4 (4 ∷ 8 ∷ 13 ∷ 10 ∷ 7 ∷ []) ((4 ∷ 8 ∷ 9 ∷ 10 ∷ 7 ∷ []) ∷ (4 ∷ 0 ∷ 1 ∷ 2 ∷ 7 ∷ []) ∷ [])
+    × RouteAmong originalSteps [] 4 4 0 (4 ∷ []) []
+    × RouteAmong diagonalsFirst [] 4 4 0 (4 ∷ []) []
+unfolding routeBy waysBy walksOf openBut windowEdges edgesFrom edgeBy sidesFrom inside centre eqZ eightSteps originalSteps diagonalsFirst stepsOf stepBy anyOf allOf select flat span below member
+    neighbours known onward discover sweep searchFrom anyRoute nodesOf route
+ordered = ((refl, refl), (refl, refl), (refl, refl), (refl, refl), (refl, refl), (refl, refl))
+
+-- no route, and no way of at most four steps: out of a corner with both of its sides blocked; from a blocked start, to itself and to another centre
+cornered : (routeBy originalSteps 4 4 (1 ∷ 4 ∷ []) 0 5 ≡ none) × (waysBy originalSteps (1 ∷ 4 ∷ []) 0 5 4 ≡ [])
+    × (routeBy originalSteps 4 4 (4 ∷ []) 4 4 ≡ none) × (waysBy originalSteps (4 ∷ []) 4 4 4 ≡ [])
+    × (routeBy originalSteps 4 4 (4 ∷ []) 4 7 ≡ none) × (waysBy originalSteps (4 ∷ []) 4 7 4 ≡ [])
+unfolding routeBy waysBy walksOf openBut windowEdges edgesFrom edgeBy sidesFrom inside centre eqZ originalSteps stepsOf stepBy anyOf allOf select flat span below member neighbours known onward
+    discover sweep searchFrom anyRoute nodesOf route
+cornered = (refl, refl, refl, refl, refl, refl)
+
+-- nor does a chain to an open neighbour make a way from a blocked start
+unopened : Way (windowEdges 2 1 eightSteps) (openBut (0 ∷ [])) 0 1 (0 ∷ 1 ∷ []) → ⊥
+unfolding openBut member anyOf
+unopened w = false≢true (w .startOpen)
+
+-- the picture of RULES 2.6: a window of 5 × 4
+picture : (routeBy originalSteps 5 4 [] 0 19 ≡ some (0 ∷ 1 ∷ 7 ∷ 13 ∷ 19 ∷ [])) × (routeBy diagonalsFirst 5 4 [] 0 19 ≡ some (0 ∷ 6 ∷ 12 ∷ 18 ∷ 19 ∷ []))
+unfolding routeBy openBut windowEdges edgesFrom edgeBy sidesFrom inside centre eqZ originalSteps diagonalsFirst stepsOf stepBy anyOf allOf select member neighbours known onward discover sweep
+    searchFrom anyRoute nodesOf route
+picture = (refl, refl)
+
+-- the steps from a centre to its neighbours: to all eight from the middle of 3 × 3, and in a window two centres wide, where 2 lies a step down and left of 1, and 1 a step right of 0
+between : (map (λ (e : Edge). stepBetween 3 4 (e .target)) (windowEdges 3 3 eightSteps 4) ≡ eightSteps)
+    × (stepBetween 2 1 2 ≡ stepBy (negsuc 0) (pos 1)) × (stepBetween 2 0 1 ≡ stepBy (pos 1) (pos 0))
+unfolding stepBetween windowEdges edgesFrom edgeBy sidesFrom inside centre eqZ eightSteps stepBy select
+between = (refl, refl, refl)
 
 -- Routes: a diagonal, and where either or both of its side centres are blocked; round a blocked middle, by the side that is tried first; a wall with no
 -- gap; equal ends, open and blocked; a blocked start; a blocked end.

@@ -1,6 +1,10 @@
 pub mod Cases
 pub mod Walks
+pub mod AllWalks
 pub mod SearchLaws
+pub mod Preceding
+pub mod Comparing
+pub mod FirstFound
 pub mod Neighbours
 pub mod RouteTheorem
 pub mod Reach
@@ -8,3 +12,4 @@ pub mod Leans
 pub mod StepLaws
 pub mod WindowLaws
 pub mod Legs
+pub mod RouteFirst

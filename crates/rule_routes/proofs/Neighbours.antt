@@ -1,15 +1,16 @@
--- Neighbours over open nodes: which edge leads there, what more edges and more open nodes keep, and what lets a step be taken back.
+-- Neighbours over open nodes: which edge leads there, what more edges and more open nodes keep, what lets a step be taken back, and when none stands twice.
 use Prim.Native.Nat.{ℕ, _<_}
 use mathlib.Core.Path.{_≡_, sym, ap, _∙_, subst}
 use mathlib.Core.Bool.{Bool, true, _&&_}
 use mathlib.Core.List.{List, List·Memᴰ, Memᴰ·cast, Memᴰ·map, Memᴰ·of-map}
-use Rattle.base_laws.specs.Lists.{allOf, select}
+use Rattle.base_laws.specs.Lists.{allOf, select, Distinct}
 use Rattle.base_laws.proofs.Members.{both, both-true, all-member, all-true, filter-in, filter-out}
+use Rattle.base_laws.proofs.Distinct.{distinct-map-filter}
 use Rattle.rule_routes.specs.Edges.{Edge}
 use Rattle.rule_routes.specs.Routes.{neighbours}
 use Rattle.rule_routes.specs.Chains.{Chain, Joined}
 use Rattle.rule_routes.specs.Roads.{Walk}
-use Rattle.rule_routes.specs.Pairs.{Within, Paired}
+use Rattle.rule_routes.specs.Pairs.{Within, Paired, OneEdge}
 use Rattle.rule_routes.proofs.Walks.{chain-sub, chain-each, walk-each, walk-chain}
 
 -- an edge of u leads to v over open nodes
@@ -65,6 +66,11 @@ neighbours-back edges n paired free u v h o m =
       opens = o;
       sidesOpen = λ c k. l .sidesOpen c (b .3 c k);
     })
+
+-- no neighbour stands twice where no two edges of a node lead to one node
+pub neighbours-once : (edges : ℕ → List Edge) (free : ℕ → Bool) → OneEdge edges → (u : ℕ) → Distinct (neighbours edges free u)
+unfolding neighbours
+neighbours-once edges free one u = distinct-map-filter (λ (e : Edge). e .target) (λ (e : Edge). free (e .target) && allOf free (e .sides)) (edges u) (one u)
 
 -- every node that a walk or a chain over open nodes leads to from an open node is open
 pub walk-opens : (edges : ℕ → List Edge) (free : ℕ → Bool) {s t : ℕ} {r : List ℕ} → free s ≡ true → Walk (neighbours edges free) s t r → (v : ℕ) → List·Memᴰ v r → free v ≡ true

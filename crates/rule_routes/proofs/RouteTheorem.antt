@@ -17,7 +17,7 @@ use Rattle.rule_routes.specs.Chains.{Joined}
 use Rattle.rule_routes.specs.Roads.{Walk, Road, Routed}
 use Rattle.rule_routes.specs.Pairs.{Within}
 use Rattle.rule_routes.proofs.Walks.{walk-each}
-use Rattle.rule_routes.proofs.SearchLaws.{Answer, search-answer}
+use Rattle.rule_routes.proofs.SearchLaws.{Sound, Answer, search-answer}
 use Rattle.rule_routes.proofs.Neighbours.{neighbours-below, walk-opens, walk-joined}
 
 -- an end that is blocked gives no route
@@ -43,32 +43,45 @@ module _ (edges : ℕ → List Edge) (n : ℕ) (within : Within edges n) (free :
   unfolding searchFrom
   answer = search-answer (neighbours edges free) (λ v. eqb v t) s n (neighbours-below edges free n within) from
 
-  -- the start of a route is open, and the search has found it
-  route-hit : (r : List ℕ) → route edges n free s t ≡ some r → (free s ≡ true) × (nodesOf (searchFrom edges n free (λ v. eqb v t) s .hit) ≡ some r)
-  unfolding route
+  -- the start is open, and the search has stopped at the end with these nodes
+  pub record Hit (r : List ℕ) : Type 0 where
+    pub startOpen : free s ≡ true
+    pub last : Route
+    pub stopped : searchFrom edges n free (λ v. eqb v t) s .hit ≡ some last
+    pub sound : Sound (neighbours edges free) s n (searchFrom edges n free (λ v. eqb v t) s .found) last
+    pub ends : last .at ≡ t
+    pub same : reverse (last .at ∷ last .back) ≡ r
+
+  pub route-hit : (r : List ℕ) → route edges n free s t ≡ some r → Hit r
+  unfolding route nodesOf
   route-hit r e =
       either (free s && free t)
-      (λ o. (both (free s) (free t) o .0, rw (route, o) at e))
+      (λ o. go (both (free s) (free t) o .0) (searchFrom edges n free (λ v. eqb v t) s .hit) refl answer (rw (route, o) at e))
       (λ f. absurd (Option·none-ne-some r (rw (route, f) at e)))
+    where
+      go : free s ≡ true → (o : Option Route) → searchFrom edges n free (λ v. eqb v t) s .hit ≡ o
+          → Answer (neighbours edges free) (λ v. eqb v t) s n o (searchFrom edges n free (λ v. eqb v t) s .found) → nodesOf o ≡ some r → Hit r
+      go open-start none h a q = absurd (Option·none-ne-some r q)
+      go open-start (some x) h a q =
+          record {
+            startOpen = open-start;
+            last = x;
+            stopped = h;
+            sound = a .0;
+            ends = eqb-true (x .at) t (a .1);
+            same = Option·some-injective (reverse (x .at ∷ x .back)) r q;
+          }
 
   -- a route found is a road from start to end
   pub route-is-road : (r : List ℕ) → route edges n free s t ≡ some r → Road edges n free s t r
-  unfolding nodesOf
   route-is-road r e =
       let h = route-hit r e in
-      go (h .0) (searchFrom edges n free (λ v. eqb v t) s .hit) (searchFrom edges n free (λ v. eqb v t) s .found) answer (h .1)
-    where
-      go : free s ≡ true → (o : Option Route) (found : List Route) → Answer (neighbours edges free) (λ v. eqb v t) s n o found
-          → nodesOf o ≡ some r → Road edges n free s t r
-      go o none found a q = absurd (Option·none-ne-some r q)
-      go o (some x) found a q =
-          let same = Option·some-injective (reverse (x .at ∷ x .back)) r q in
-          let w = subst (λ (v : ℕ). Walk (neighbours edges free) s v (reverse (x .at ∷ x .back))) (eqb-true (x .at) t (a .1)) (a .0 .walk) in
-          rw same at (walk-road o w (distinct-reverse (a .0 .once)))
+      let w = subst (λ (v : ℕ). Walk (neighbours edges free) s v (reverse (h .last .at ∷ h .last .back))) (h .ends) (h .sound .walk) in
+      rw (h .same) at (walk-road (h .startOpen) w (distinct-reverse (h .sound .once)))
 
   pub route-sound : Routed edges n free s t → Joined edges free s t
   unfolding Routed
-  route-sound r = walk-joined edges free (route-hit (r .0) (r .1) .0) (route-is-road (r .0) (r .1) .walk)
+  route-sound r = walk-joined edges free (route-hit (r .0) (r .1) .startOpen) (route-is-road (r .0) (r .1) .walk)
 
   pub route-complete : Joined edges free s t → Routed edges n free s t
   unfolding Routed nodesOf route

@@ -84,6 +84,13 @@ extend-grows r vs found =
     (λ g v p m k. (p .0 ++ onward r v ∷ [], ap (λ (l : List Route). l ++ onward r v ∷ []) (p .1) ∙ append-assoc found (p .0) (onward r v ∷ [])))
     ([], sym (append-nil found))
 
+-- So r, whose turn it was, is the last of those that have had theirs.
+pub turn-taken : (r : Route) (vs : List ℕ) (k : ℕ) (found : List Route) → k < length found → getD found k anyRoute ≡ r
+    → take (suc k) (discover r vs found) ≡ take k found ++ r ∷ []
+turn-taken r vs k found h e =
+    let g = extend-grows r vs found in
+    ap (take (suc k)) (g .1) ∙ take-append-le (suc k) found (g .0) h ∙ take-suc found k anyRoute h ∙ ap (λ (x : Route). take k found ++ x ∷ []) e
+
 pub reached-more : {v : ℕ} (found more : List Route) → List·Memᴰ v (reached found) → List·Memᴰ v (reached (found ++ more))
 reached-more found more m = rw map-append (Memᴰ·append-left (reached more) m)
 
@@ -122,6 +129,27 @@ module _ (nbrs : ℕ → List ℕ) (stops : ℕ → Bool) where
   unfolding sweep
   search-done zero k found h = refl
   search-done (suc turns) k found h = rw (sweep, le-ltb k (length found) h)
+
+  -- What each turn keeps holds when the search ends: at the turn of a route that ends at a node that stops it, or when all routes found have had their turn.
+  abbrev pub Ended : (P : ℕ → List Route → Type 0) → Option Route → List Route → Type 0
+  Ended P none found = (k : ℕ) × P k found × (length found ≤ k)
+  Ended P (some r) found = (k : ℕ) × P k found × (k < length found) × (getD found k anyRoute ≡ r) × (stops (r .at) ≡ true)
+
+  pub sweep-ends : (P : ℕ → List Route → Type 0) (n : ℕ) → ((k : ℕ) (found : List Route) → P k found → length found ≤ n)
+      → ((k : ℕ) (found : List Route) → P k found → k < length found → stops (getD found k anyRoute .at) ≡ false
+      → P (suc k) (discover (getD found k anyRoute) (nbrs (getD found k anyRoute .at)) found))
+      → (turns k : ℕ) (found : List Route) → turns + k ≡ n → P k found → Ended P (sweep nbrs stops turns k found .hit) (sweep nbrs stops turns k found .found)
+  unfolding sweep
+  sweep-ends P n few next zero k found q p = let h = few k found p in (k, p, omega arith)
+  sweep-ends P n few next (suc turns) k found q p =
+      let r : Route = getD found k anyRoute in
+      either (ltb k (length found))
+      (λ lt.
+      let h = ltb-true k (length found) lt in
+      either (stops (r .at))
+      (λ s. rw (search-stop turns k found h s) (k, p, h, refl, s))
+      (λ s. rw (search-next turns k found h s) (sweep-ends P n few next turns (suc k) (discover r (nbrs (r .at)) found) (omega arith) (next k found p h s))))
+      (λ ge. let h = ltb-false k (length found) ge in rw (search-done (suc turns) k found h) (k, p, h))
 
 module _ (nbrs : ℕ → List ℕ) (start n : ℕ) where
   -- A route is a walk from the start without repeats over nodes that routes have reached.
@@ -244,13 +272,10 @@ module _ (nbrs : ℕ → List ℕ) (stops : ℕ → Bool) (start n : ℕ) (below
       grown : (more : List Route) × (discover r (nbrs (r .at)) found ≡ found ++ more)
       grown = extend-grows r (nbrs (r .at)) found
 
-      turned : take (suc k) (discover r (nbrs (r .at)) found) ≡ take k found ++ r ∷ []
-      turned = ap (take (suc k)) (grown .1) ∙ take-append-le (suc k) found (grown .0) h ∙ take-suc found k anyRoute h ∙ ap (λ (x : Route). take k found ++ x ∷ []) e
-
       among : (u : ℕ) → List·Memᴰ u (reached (take (suc k) (discover r (nbrs (r .at)) found))) → List·Memᴰ u (reached (take k found)) ⊎ (u ≡ r .at)
       among u m =
           ⊎-elim inl (λ (j : List·Memᴰ u (reached (r ∷ []))). inr (List·Memᴰ·eq-of-singleton j))
-          (List·Memᴰ·append-cases (reached (take k found)) (rw (turned, map-append) at m))
+          (List·Memᴰ·append-cases (reached (take k found)) (rw (turn-taken r (nbrs (r .at)) k found h e, map-append) at m))
 
   spent : (k : ℕ) (found : List Route) → Turns nbrs stops start n k found → length found ≤ k → Answer nbrs stops start n none found
   spent k found t h = (
@@ -270,21 +295,11 @@ module _ (nbrs : ℕ → List ℕ) (stops : ℕ → Bool) (start n : ℕ) (below
       come Chain·start = t .base .begun
       come (Chain·step {u = u} {v = v} a m) = t .shut u v (rw (take-all k found h) (come a)) m
 
-  answered : (turns k : ℕ) (found : List Route) → turns + k ≡ n → Turns nbrs stops start n k found
-      → Answer nbrs stops start n (sweep nbrs stops turns k found .hit) (sweep nbrs stops turns k found .found)
-  unfolding sweep
-  answered zero k found q t = let h = turns-few k found t in spent k found t (omega arith)
-  answered (suc turns) k found q t =
-      let r : Route = getD found k anyRoute in
-      either (ltb k (length found))
-      (λ lt.
-      let h = ltb-true k (length found) lt in
-      either (stops (r .at))
-      (λ s. rw (search-stop nbrs stops turns k found h s) (t .base .sound r (getD-member found k anyRoute h), s))
-      (λ s.
-      rw (search-next nbrs stops turns k found h s)
-      (answered turns (suc k) (discover r (nbrs (r .at)) found) (omega arith) (turns-next k found r t h refl s))))
-      (λ ge. let h = ltb-false k (length found) ge in rw (search-done nbrs stops (suc turns) k found h) (spent k found t h))
-
   pub search-answer : start < n → Answer nbrs stops start n (sweep nbrs stops n 0 (first start ∷ []) .hit) (sweep nbrs stops n 0 (first start ∷ []) .found)
-  search-answer h = answered n 0 (first start ∷ []) (omega arith) (turns-first h)
+  search-answer h =
+      go (sweep nbrs stops n 0 (first start ∷ []) .hit) (sweep nbrs stops n 0 (first start ∷ []) .found)
+      (sweep-ends nbrs stops (Turns nbrs stops start n) n turns-few (λ k found t h s. turns-next k found (getD found k anyRoute) t h refl s) n 0 (first start ∷ []) (omega arith) (turns-first h))
+    where
+      go : (o : Option Route) (found : List Route) → Ended nbrs stops (Turns nbrs stops start n) o found → Answer nbrs stops start n o found
+      go none found (k, t, h) = spent k found t h
+      go (some r) found (k, t, h, e, s) = (t .base .sound r (rw e at (getD-member found k anyRoute h)), s)

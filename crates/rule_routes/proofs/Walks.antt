@@ -1,10 +1,15 @@
 -- Laws of chains and walks over any neighbours.
-use mathlib.Core.List.{List, [], _∷_, _++_, reverse, reverse-cons, List·Memᴰ, List·Memᴰ·head, List·Memᴰ·cases-cons, List·Memᴰ·eq-of-singleton}
+use mathlib.Core.List.{List, [], _∷_, _++_, append-assoc, reverse, reverse-cons, List·Memᴰ, List·Memᴰ·head, List·Memᴰ·cases-cons, List·Memᴰ·eq-of-singleton}
 use mathlib.Core.Path.{_≡_, refl, sym, subst}
 use mathlib.Core.Logic.{⊎-elim}
 use Prim.Native.Nat.{ℕ}
 use Rattle.rule_routes.specs.Chains.{Chain, Chain·start, Chain·step}
 use Rattle.rule_routes.specs.Roads.{Walk, Walk·stop, Walk·step}
+
+-- a walk, told by its last step
+pub data Led (nbrs : ℕ → List ℕ) (s : ℕ) : ℕ → List ℕ → Type 0 where
+  Led·stop : Led nbrs s s (s ∷ [])
+  Led·step : {u v : ℕ} {r : List ℕ} → Led nbrs s u r → List·Memᴰ v (nbrs u) → Led nbrs s v (r ++ v ∷ [])
 
 module _ {nbrs : ℕ → List ℕ} where
   pub chain-join : {s u v : ℕ} → Chain nbrs s u → Chain nbrs u v → Chain nbrs s v
@@ -22,6 +27,14 @@ module _ {nbrs : ℕ → List ℕ} where
   pub chain-walk : {s t : ℕ} → Chain nbrs s t → (r : List ℕ) × Walk nbrs s t r
   chain-walk {s} Chain·start = (s ∷ [], Walk·stop)
   chain-walk (Chain·step {v = v} a m) = let w = chain-walk a in (w .0 ++ v ∷ [], walk-snoc v (w .1) m)
+
+  led-on : {s u t : ℕ} (p : List ℕ) {r : List ℕ} → Led nbrs s u (p ++ u ∷ []) → Walk nbrs u t r → Led nbrs s t (p ++ r)
+  led-on p l Walk·stop = l
+  led-on {s} p l (Walk·step {u = u} {v = v} {w = w} {r = r} m k) =
+      subst (λ (x : List ℕ). Led nbrs s w x) (append-assoc p (u ∷ []) r) (led-on (p ++ u ∷ []) (Led·step l m) k)
+
+  pub walk-led : {s t : ℕ} {r : List ℕ} → Walk nbrs s t r → Led nbrs s t r
+  walk-led w = led-on [] Led·stop w
 
   pub walk-starts : {s t : ℕ} {r : List ℕ} → Walk nbrs s t r → List·Memᴰ s r
   walk-starts Walk·stop = List·Memᴰ·head refl

@@ -3,3 +3,4 @@ pub mod Routes
 pub mod Chains
 pub mod Roads
 pub mod Pairs
+pub mod Shortest
