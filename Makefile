@@ -76,7 +76,7 @@ bindings:
 	@tests/walls_played
 	@command -v cargo > /dev/null || { echo "make bindings: cargo is not at hand, so the Rust crate was neither built nor tested"; exit 1; }
 	@cd bindings/rust && cargo build --quiet --offline --release --examples && cargo test --quiet --offline
-	@cd bindings/rust && cargo run --quiet --offline --release --example narrow_ramp && cargo run --quiet --offline --release --example broad_valley
+	@cd bindings/rust && for name in narrow_ramp broad_valley nearest_first; do cargo run --quiet --offline --release --example $$name || exit 1; done
 
 compare:
 	@command -v cargo >/dev/null || { echo "make compare: cargo is not at hand, so the original Rust cannot be run"; exit 1; }

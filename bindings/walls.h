@@ -1,9 +1,12 @@
-/* The wall search of a map planner, as proved C functions: prepare, cover, lift, begin, step, read, judge.
+/* The wall search of a map planner, as proved C functions: prepare, cover, lift, begin, step, read, judge, rank, closer.
  *
  * Build the archive with `rt staticlib walls_c`, and link target/staticlib/libwalls_c.a. bindings/c/example.c is a whole program.
  *
  * A planner prepares the mover to keep out, and the mover to let pass if there is one; begins a search; steps it, in any portions,
  * until its reason is no longer Running; and reads the walls from the layouts area. Judging tells what a selection comes to.
+ *
+ * Before a search, rank tells how far a footprint lies from an entrance, and closer whether one rank is nearer than another, to sort
+ * placements by.
  *
  * An editor that drags a building prepares the movers without it and covers it; then lifts it and covers it elsewhere, on each mover's
  * baseline, and begins a new search. What this costs grows with the building, not with the window.
@@ -11,10 +14,12 @@
  * Rules for every call
  *
  *  - Every call is answered, on every input: HITROVZEN_ACCEPTED, or the number of the first check that fails, in the order that
- *    is told below for each function. It allocates nothing, keeps no pointer, and ends after finitely many steps.
+ *    is told below for each function; closer, which turns nothing away, answers 1 or 0. A call allocates nothing, keeps no pointer,
+ *    and ends after finitely many steps.
  *  - A row of values is two arguments: a pointer, and the number of its elements. The pointer must be valid for so many elements,
  *    aligned and not NULL, also where the number is 0. An area that a call writes must not overlap another area of that call.
- *    This, and that single pointers (`index`, `first`, ..) be valid, is all that is asked of a caller.
+ *    This, and that single pointers (`index`, `first`, `quotient`, ..) be valid, aligned, and each point to a number of its own
+ *    outside these areas, is all that is asked of a caller.
  *  - An area may be longer than needed. What lies past the needed length is never written.
  *  - A search lives in its record and its four store areas, which belong to the caller. Between the calls of one search, its
  *    inputs (QUERY, LIMITS, PLACES, BASES, STEPS), its record and its store must stay as they were. What is promised of a search
@@ -82,12 +87,14 @@ enum hitrovzen_answer {
     HITROVZEN_RESULT_LIMIT_INVALID = 12, /* The result limit is not 1 to 32. */
     /* 13 is reserved: no call gives it. */
     HITROVZEN_TOO_MANY_PLACEMENTS = 14,  /* There are more than 6,144 placements. */
-    HITROVZEN_PLACEMENT_INVALID = 15,    /* A placement has a spec index above 5, no such group, an empty rectangle or a footprint not wholly inside the window; or the rectangle to cover or lift is empty. */
+    HITROVZEN_PLACEMENT_INVALID = 15,    /* A placement has a spec index above 5, no such group, an empty rectangle or a footprint not wholly inside the window; or the rectangle to cover or lift is empty; or the footprint to rank is empty or not wholly inside the map. */
     HITROVZEN_RECORD_INVALID = 16,       /* The record and its areas are not those of a search over these inputs. */
     HITROVZEN_SELECTION_INVALID = 17,    /* No layout has this number, or the selection does not ascend strictly, names no placement or has more than 6. */
     /* 18 is an answer of the program that reads drive sheets. */
     HITROVZEN_STEPS_INVALID = 19,        /* The table of steps is not 16 numbers, or does not hold each of the eight steps exactly once. */
-    HITROVZEN_COUNT_OUT_OF_RANGE = 20    /* A cover would take a count above 255, or a lift one below zero. */
+    HITROVZEN_COUNT_OUT_OF_RANGE = 20,   /* A cover would take a count above 255, or a lift one below zero. */
+    /* No call gives 21. */
+    HITROVZEN_SITE_INVALID = 22          /* The radius is above 1,024, an entrance point lies beyond the map, or the two entrance points are equal. */
 };
 
 /* Why a search stands where it stands: record[HITROVZEN_REASON]. */
@@ -331,6 +338,34 @@ uint32_t hitrovzen_judge(
     uint32_t *predecessors, size_t predecessors_len,
     uint32_t *route, size_t route_len,
     uint32_t *index, uint32_t *verdict, uint32_t *ground);
+
+/* Tells how far a footprint lies from an entrance: the squared distance in pixels, from the footprint's centre to the nearest point
+ * of the line from first to second, is quotient + remainder / divisor. The remainder is below the divisor. The divisor is 4 where the
+ * nearest point is an end of the entrance, otherwise 4 times the squared length of the entrance: at least 4, and at most 2^29.
+ *
+ * A footprint that lies farther from the entrance than the radius has no rank: it is accepted, and all three numbers are 0. One that
+ * lies exactly as far has one. hitrovzen_closer takes such zeros too, as farther than every rank.
+ *
+ * across, down: as for hitrovzen_prepare. first, second: the ends of the entrance, in map pixels; they may lie on the map's right and
+ * lower edge, x up to 8 * across and y up to 8 * down. radius: in pixels, 0 to 1,024. footprint: inside the map, not empty.
+ *
+ * Refused, in this order, with 1 (the map's size alone is looked at), 22, 15. All three numbers are then 0. */
+uint32_t hitrovzen_rank(
+    uint32_t across, uint32_t down,
+    uint32_t first_x, uint32_t first_y, uint32_t second_x, uint32_t second_y, uint32_t radius,
+    int32_t footprint_left, int32_t footprint_top, int32_t footprint_right, int32_t footprint_bottom,
+    uint64_t *quotient, uint64_t *remainder, uint64_t *divisor);
+
+/* Tells whether the first of two ranks is closer: 1 if it is, that is, if quotient + remainder / divisor is below
+ * other_quotient + other_remainder / other_divisor, else 0.
+ *
+ * Three numbers are a rank where the remainder is below the divisor and the divisor is at most 2^29; any others count as farther than
+ * every rank, and none of these is closer than another. So this is a strict weak order of all numbers, to sort by: none is closer
+ * than itself; what is closer than a second that is closer than a third is closer than the third; and where neither of two is closer,
+ * they stand alike to every other. Ranks with equal fractions are such, also where their divisors differ. */
+uint32_t hitrovzen_closer(
+    uint64_t quotient, uint64_t remainder, uint64_t divisor,
+    uint64_t other_quotient, uint64_t other_remainder, uint64_t other_divisor);
 
 #ifdef __cplusplus
 }

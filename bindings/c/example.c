@@ -1,6 +1,7 @@
-/* A gap of six pixels in which posts may stand. The planner looks for the sets of posts that keep a mover of three pixels out and
- * let one of a single pixel pass, and prints each with the way past it. Then a rock is put down in the gap, dragged to its other end
- * and taken away, and the walls are listed each time; at last with ways that prefer diagonal steps.
+/* A gap of six pixels in which posts may stand. They are printed by their distance from an entrance, nearest first. The planner looks
+ * for the sets of posts that keep a mover of three pixels out and let one of a single pixel pass, and prints each with the way past
+ * it. Then a rock is put down in the gap, dragged to its other end and taken away, and the walls are listed each time; at last with
+ * ways that prefer diagonal steps.
  *
  *     cc -std=c11 -I bindings bindings/c/example.c target/staticlib/libwalls_c.a -o example && ./example
  */
@@ -39,6 +40,10 @@ static const int32_t edges[] = {
     3, 3, 4, 6, 3, 3, 4, 6,
 };
 
+/* The ends of the entrance, and how far from it a post may stand. */
+#define ENTRANCE 1, 1, 3, 4
+#define RADIUS 2
+
 /* The order in which a way tries the eight steps: the original's, and one in which the diagonal steps come first. */
 static const int32_t original[HITROVZEN_STEPS] = HITROVZEN_ORIGINAL_STEPS;
 static const int32_t diagonals[HITROVZEN_STEPS] = {
@@ -72,6 +77,40 @@ static void accepted(const char *call, uint32_t answer) {
     if (answer == HITROVZEN_ACCEPTED) return;
     fprintf(stderr, "%s: refused with %" PRIu32 "\n", call, answer);
     exit(1);
+}
+
+/* A post and its rank. The three numbers are 0 where it has none, which hitrovzen_closer takes as farther than every rank. */
+struct ranked {
+    unsigned post;
+    uint64_t quotient, remainder, divisor;
+};
+
+static int closer(const struct ranked *a, const struct ranked *b) {
+    return hitrovzen_closer(a->quotient, a->remainder, a->divisor, b->quotient, b->remainder, b->divisor) == 1;
+}
+
+/* Nearest first. qsort may exchange what a comparison finds equal: posts that are equally near come by their numbers. */
+static int by_rank(const void *a, const void *b) {
+    const struct ranked *p = a, *q = b;
+    int order = closer(q, p) - closer(p, q);
+    return order != 0 ? order : (p->post > q->post) - (p->post < q->post);
+}
+
+static void print_ranks(void) {
+    struct ranked posts[4];
+    for (unsigned i = 0; i < 4; i++) {
+        const int32_t *footprint = edges + HITROVZEN_EDGES * i;
+        struct ranked *p = posts + i;
+        p->post = i;
+        accepted("rank", hitrovzen_rank(1, 1, ENTRANCE, RADIUS, footprint[0], footprint[1], footprint[2], footprint[3],
+                                        &p->quotient, &p->remainder, &p->divisor));
+    }
+    qsort(posts, 4, sizeof *posts, by_rank);
+    for (unsigned i = 0; i < 4; i++) {
+        const struct ranked *p = posts + i;
+        if (p->divisor == 0) printf("post %u: beyond the radius\n", p->post);
+        else printf("post %u: squared distance %" PRIu64 " + %" PRIu64 "/%" PRIu64 "\n", p->post, p->quotient, p->remainder, p->divisor);
+    }
 }
 
 static void lend(void) {
@@ -169,6 +208,7 @@ static void prefer_diagonals(void) {
 }
 
 int main(void) {
+    print_ranks();
     lend();
     prepare();
     print_walls();

@@ -1,6 +1,6 @@
 /* What walls.h says of lent areas, tried: how long each must be, that nothing past that is written, and what refusals leave; and what
- * it says of the ground left and of tables of steps. The case is that of example.c. Prints how many statements held, and each that
- * did not. */
+ * it says of the ground left, of tables of steps and of ranks. The case is that of example.c, but for ranks. Prints how many
+ * statements held, and each that did not. */
 #include <inttypes.h>
 #include <stdio.h>
 #include <string.h>
@@ -457,6 +457,141 @@ static void any_counts(void) {
     for (int a = RECORD; a < AREAS; a++) holds(as_kept(a), "and searched as 1", areas[a].name);
 }
 
+/* For ranks: a map of 24 by 16 pixels, and an entrance that leads four pixels across and three down, so that it is five long and the
+ * divisor between its ends is 100. Then the largest map, with its diagonal. */
+#define MAP 3, 2
+#define ENTRANCE 8, 8, 12, 11
+#define LARGEST 1024, 1024
+#define DIAGONAL 0, 0, 8192, 8192
+#define INSIDE 9, 9, 11, 10
+#define NO_RANK HITROVZEN_ACCEPTED, 0, 0, 0
+#define REFUSED(number) number, 0, 0, 0
+
+static const struct ranking {
+    const char *name;
+    uint32_t across, down, first_x, first_y, second_x, second_y, radius;
+    int32_t left, top, right, bottom;
+    uint32_t answer;
+    uint64_t quotient, remainder, divisor;
+} rankings[] = {
+    {"on the entrance", MAP, ENTRANCE, 5, INSIDE, 0, 0, 0, 100},
+    {"on its first end", MAP, ENTRANCE, 5, 7, 7, 9, 9, 0, 0, 0, 4},
+    {"on its second end", MAP, ENTRANCE, 5, 11, 10, 13, 12, 0, 0, 0, 4},
+    {"before the first end", MAP, ENTRANCE, 5, 7, 8, 8, 9, 0, 0, 2, 4},
+    {"straight beside the first end", MAP, ENTRANCE, 5, 9, 5, 10, 7, 0, 6, 1, 4},
+    {"a little behind it", MAP, ENTRANCE, 5, 8, 7, 9, 8, 0, 0, 49, 100},
+    {"a little before the second end", MAP, ENTRANCE, 5, 12, 9, 14, 10, 0, 3, 24, 100},
+    {"straight beside the second end", MAP, ENTRANCE, 5, 13, 8, 14, 10, 0, 6, 1, 4},
+    {"behind the second end", MAP, ENTRANCE, 5, 13, 8, 15, 9, 0, 10, 1, 4},
+    {"the radius away from the first end", MAP, ENTRANCE, 5, 3, 4, 5, 6, 0, 25, 0, 4},
+    {"25 + 1/4 away from it", MAP, ENTRANCE, 5, 2, 7, 4, 8, NO_RANK},
+    {"the radius away from the second end", MAP, ENTRANCE, 5, 16, 10, 18, 12, 0, 25, 0, 4},
+    {"25 + 1/4 away from it", MAP, ENTRANCE, 5, 16, 11, 18, 12, NO_RANK},
+    {"the radius away between the ends", MAP, ENTRANCE, 5, 12, 5, 14, 6, 0, 25, 0, 100},
+    {"26 + 1/100 away between the ends", MAP, ENTRANCE, 5, 12, 4, 13, 6, NO_RANK},
+    {"no radius, on the entrance", MAP, ENTRANCE, 0, INSIDE, 0, 0, 0, 100},
+    {"no radius, 49/100 away", MAP, ENTRANCE, 0, 8, 7, 9, 8, NO_RANK},
+    {"no radius, on an end", MAP, ENTRANCE, 0, 7, 7, 9, 9, 0, 0, 0, 4},
+    {"no radius, 2/4 away from an end", MAP, ENTRANCE, 0, 7, 8, 8, 9, NO_RANK},
+    {"the largest divisor", LARGEST, DIAGONAL, 1024, 0, 0, 1, 3, 0, 0, 268435456, 536870912},
+    {"just within the largest radius", LARGEST, DIAGONAL, 1024, 1448, 0, 1450, 2, 0, 1048352, 0, 536870912},
+    {"and beyond it", LARGEST, DIAGONAL, 1024, 1448, 0, 1451, 2, NO_RANK},
+    {"the farthest corner", LARGEST, DIAGONAL, 1024, 8191, 0, 8192, 1, NO_RANK},
+    {"an entrance of one pixel", MAP, 8, 8, 9, 8, 5, 8, 0, 9, 16, 0, 0, 0, 4},
+
+    {"no cells across", 0, 2, ENTRANCE, 5, INSIDE, REFUSED(HITROVZEN_MAP_INVALID)},
+    {"no cells down", 3, 0, ENTRANCE, 5, INSIDE, REFUSED(HITROVZEN_MAP_INVALID)},
+    {"one cell", 1, 1, 0, 0, 8, 8, 8, 0, 0, 8, 8, 0, 0, 0, 512},
+    {"1,024 cells across", 1024, 2, ENTRANCE, 5, INSIDE, 0, 0, 0, 100},
+    {"1,024 cells down", 3, 1024, ENTRANCE, 5, INSIDE, 0, 0, 0, 100},
+    {"1,025 cells across", 1025, 2, ENTRANCE, 5, INSIDE, REFUSED(HITROVZEN_MAP_INVALID)},
+    {"1,025 cells down", 3, 1025, ENTRANCE, 5, INSIDE, REFUSED(HITROVZEN_MAP_INVALID)},
+    {"cells that wrap to three", 536870915, 2, ENTRANCE, 5, INSIDE, REFUSED(HITROVZEN_MAP_INVALID)},
+    {"the most cells", UINT32_MAX, UINT32_MAX, ENTRANCE, 5, INSIDE, REFUSED(HITROVZEN_MAP_INVALID)},
+
+    {"a radius of 1,024", MAP, ENTRANCE, 1024, INSIDE, 0, 0, 0, 100},
+    {"a radius of 1,025", MAP, ENTRANCE, 1025, INSIDE, REFUSED(HITROVZEN_SITE_INVALID)},
+    {"the largest radius of all", MAP, ENTRANCE, UINT32_MAX, INSIDE, REFUSED(HITROVZEN_SITE_INVALID)},
+    {"a point on the map's right edge", MAP, 24, 8, 8, 8, 5, 15, 7, 17, 9, 0, 0, 0, 1024},
+    {"a point beyond it", MAP, 25, 8, 8, 8, 5, 15, 7, 17, 9, REFUSED(HITROVZEN_SITE_INVALID)},
+    {"a point on the map's lower edge", MAP, 8, 16, 8, 8, 5, 7, 11, 9, 13, 0, 0, 0, 256},
+    {"a point beyond it", MAP, 8, 17, 8, 8, 5, 7, 11, 9, 13, REFUSED(HITROVZEN_SITE_INVALID)},
+    {"a point far away", MAP, UINT32_MAX, UINT32_MAX, 8, 8, 5, INSIDE, REFUSED(HITROVZEN_SITE_INVALID)},
+    {"two equal points", MAP, 8, 8, 8, 8, 5, INSIDE, REFUSED(HITROVZEN_SITE_INVALID)},
+    {"points in one row", MAP, 8, 8, 12, 8, 5, 9, 7, 11, 9, 0, 0, 0, 64},
+    {"points in one column", MAP, 8, 8, 8, 12, 5, 7, 9, 9, 11, 0, 0, 0, 64},
+
+    {"the whole map", MAP, ENTRANCE, 5, 0, 0, 24, 16, 0, 5, 76, 100},
+    {"left of the map", MAP, ENTRANCE, 5, -1, 0, 24, 16, REFUSED(HITROVZEN_PLACEMENT_INVALID)},
+    {"above the map", MAP, ENTRANCE, 5, 0, -1, 24, 16, REFUSED(HITROVZEN_PLACEMENT_INVALID)},
+    {"right of the map", MAP, ENTRANCE, 5, 0, 0, 25, 16, REFUSED(HITROVZEN_PLACEMENT_INVALID)},
+    {"below the map", MAP, ENTRANCE, 5, 0, 0, 24, 17, REFUSED(HITROVZEN_PLACEMENT_INVALID)},
+    {"no columns", MAP, ENTRANCE, 5, 9, 9, 9, 10, REFUSED(HITROVZEN_PLACEMENT_INVALID)},
+    {"no rows", MAP, ENTRANCE, 5, 9, 9, 11, 9, REFUSED(HITROVZEN_PLACEMENT_INVALID)},
+    {"columns inverted", MAP, ENTRANCE, 5, 11, 9, 9, 10, REFUSED(HITROVZEN_PLACEMENT_INVALID)},
+    {"rows inverted", MAP, ENTRANCE, 5, 9, 10, 11, 9, REFUSED(HITROVZEN_PLACEMENT_INVALID)},
+    {"edges at their ends", MAP, ENTRANCE, 5, INT32_MIN, INT32_MIN, INT32_MAX, INT32_MAX, REFUSED(HITROVZEN_PLACEMENT_INVALID)},
+    {"edges at their other ends", MAP, ENTRANCE, 5, INT32_MAX, INT32_MAX, INT32_MIN, INT32_MIN, REFUSED(HITROVZEN_PLACEMENT_INVALID)},
+    {"a footprint beyond the radius, and the map", MAP, ENTRANCE, 0, 23, 15, 25, 16, REFUSED(HITROVZEN_PLACEMENT_INVALID)},
+
+    {"all of it wrong: 1 is looked at first", 0, 1025, 25, 17, 25, 17, 1025, 9, 9, 9, 9, REFUSED(HITROVZEN_MAP_INVALID)},
+    {"then 22, for the radius", MAP, ENTRANCE, 1025, 9, 9, 9, 9, REFUSED(HITROVZEN_SITE_INVALID)},
+    {"and for a point", MAP, 25, 8, 12, 11, 5, 9, 9, 9, 9, REFUSED(HITROVZEN_SITE_INVALID)},
+    {"and for equal points", MAP, 8, 8, 8, 8, 5, 9, 9, 9, 9, REFUSED(HITROVZEN_SITE_INVALID)},
+    {"then 15", MAP, ENTRANCE, 5, 9, 9, 9, 9, REFUSED(HITROVZEN_PLACEMENT_INVALID)},
+};
+
+/* The three numbers are lent apart, with one before, between and behind them that is not. */
+static void rank(const struct ranking *r, int exchanged) {
+    uint64_t lent[7];
+    memset(lent, 0xA5, sizeof lent);
+    uint32_t first_x = exchanged ? r->second_x : r->first_x, first_y = exchanged ? r->second_y : r->first_y;
+    uint32_t second_x = exchanged ? r->first_x : r->second_x, second_y = exchanged ? r->first_y : r->second_y;
+    uint32_t answer = hitrovzen_rank(r->across, r->down, first_x, first_y, second_x, second_y, r->radius,
+                                     r->left, r->top, r->right, r->bottom, lent + 1, lent + 3, lent + 5);
+    holds(answer == r->answer, "a footprint is ranked, or refused with its number", r->name);
+    holds(lent[1] == r->quotient, "the quotient is that of the squared distance, 0 without a rank", r->name);
+    holds(lent[3] == r->remainder, "so is the remainder", r->name);
+    holds(lent[5] == r->divisor, "so is the divisor", r->name);
+    for (int i = 0; i < 7; i += 2) holds(lent[i] == UINT64_C(0xA5A5A5A5A5A5A5A5), "rank writes nothing else", r->name);
+}
+
+/* Which end of the entrance is the first changes no answer. */
+static void ranks(void) {
+    keep();
+    for (size_t i = 0; i < sizeof rankings / sizeof *rankings; i++) {
+        rank(rankings + i, 0);
+        rank(rankings + i, 1);
+    }
+    all_as_kept("rank writes no area");
+}
+
+/* Groups of three numbers, from the closest on: those of one group are equally far, and what is no rank is farthest. */
+static void order(void) {
+    enum { MOST = 536870912 };
+    static const struct {
+        int group;
+        uint64_t quotient, remainder, divisor;
+    } given[] = {
+        {0, 0, 0, 1}, {0, 0, 0, 4}, {0, 0, 0, 100}, {0, 0, 0, MOST},
+        {1, 0, 1, MOST}, {2, 0, 1, MOST - 1},
+        {3, 0, 25, 104}, {4, 0, 1, 4}, {4, 0, 25, 100}, {4, 0, MOST / 4, MOST}, {5, 0, 26, 100},
+        {6, 0, MOST - 3, MOST - 2}, {7, 0, MOST - 2, MOST - 1}, {8, 0, MOST - 1, MOST},
+        {9, 1, 0, 100}, {9, 1, 0, MOST}, {10, 1, 3, 4}, {10, 1, 75, 100}, {11, 2, 0, 4}, {12, 2, 1, 4},
+        {13, UINT64_C(1) << 32, 0, 4}, {14, UINT64_MAX, 0, 4}, {15, UINT64_MAX, MOST - 2, MOST - 1}, {16, UINT64_MAX, MOST - 1, MOST},
+        {17, 0, 0, 0}, {17, 7, 0, 0}, {17, 0, 4, 4}, {17, 0, 5, 4}, {17, 0, 0, MOST + 1}, {17, 3, MOST, MOST + UINT64_C(1)},
+        {17, 0, MOST, MOST}, {17, 0, 0, UINT64_C(1) << 32}, {17, 0, UINT64_MAX, UINT64_MAX}, {17, 0, UINT64_MAX - 1, UINT64_MAX},
+        {17, UINT64_MAX, UINT64_MAX, 0},
+    };
+    enum { GIVEN = sizeof given / sizeof *given };
+    for (int a = 0; a < GIVEN; a++)
+        for (int b = 0; b < GIVEN; b++) {
+            uint32_t is = hitrovzen_closer(given[a].quotient, given[a].remainder, given[a].divisor,
+                                           given[b].quotient, given[b].remainder, given[b].divisor);
+            holds(is == (given[a].group < given[b].group), "the closer of two is told, as 1 or 0", "closer");
+        }
+}
+
 int main(void) {
     whole();
     lengths();
@@ -472,6 +607,8 @@ int main(void) {
     in_order(hitrovzen_cover, 255, "cover");
     in_order(hitrovzen_lift, 0, "lift");
     any_counts();
+    ranks();
+    order();
     printf("%u statements held, %u did not\n", held, failed);
     return failed != 0;
 }

@@ -5,8 +5,8 @@
 //! A function of [`crate::raw`] asks that pointers be non-null and aligned, that each area be valid for its length, and that no
 //! area it writes overlap another one. Here every pointer and length come from one slice or vector, which is never null and
 //! is aligned even when empty; the areas that are written come from `&mut` borrows, so they are distinct from each other and
-//! from everything that is read. Numbers of any value are elements of these types, and no function keeps a pointer after it
-//! returns. So nothing is asked of the callers of this module.
+//! from everything that is read. A single number that is written is a local of its own. Numbers of any value are elements of
+//! these types, and no function keeps a pointer after it returns. So nothing is asked of the callers of this module.
 
 #![allow(unsafe_code)]
 
@@ -17,7 +17,7 @@ use crate::{
     areas::{Store, Work, RECORD},
     raw,
     refusal::Refusal,
-    values::{Bounds, Limits, Plan, Rect},
+    values::{Bounds, Limits, Plan, Rect, Site},
 };
 
 /// The inputs of the calls that take placements: a plan, its placements laid flat, its movers' baselines, and its steps laid flat,
@@ -407,4 +407,44 @@ pub(crate) fn judge(
     answer(number, Some(index))?;
     let verdict = Verdict::numbered(verdict).ok_or(Refusal::UNNAMED)?;
     Ok(Judgement { verdict, ground })
+}
+
+/// Quotient, remainder and divisor; all 0 where there is no rank.
+pub(crate) fn rank(
+    across: u32,
+    down: u32,
+    site: Site,
+    footprint: Rect,
+) -> Result<[u64; 3], Refusal> {
+    let mut quotient = 0;
+    let mut remainder = 0;
+    let mut divisor = 0;
+    // SAFETY: see the head of this module.
+    let number = unsafe {
+        raw::hitrovzen_rank(
+            across,
+            down,
+            site.first.x,
+            site.first.y,
+            site.second.x,
+            site.second.y,
+            site.radius,
+            footprint.left,
+            footprint.top,
+            footprint.right,
+            footprint.bottom,
+            &mut quotient,
+            &mut remainder,
+            &mut divisor,
+        )
+    };
+    answer(number, None)?;
+    Ok([quotient, remainder, divisor])
+}
+
+/// Whether the first of two ranks is the closer one: quotient, remainder and divisor of each.
+pub(crate) fn closer(a: [u64; 3], b: [u64; 3]) -> bool {
+    // SAFETY: there is no pointer, and numbers of any value are answered.
+    let is = unsafe { raw::hitrovzen_closer(a[0], a[1], a[2], b[0], b[1], b[2]) };
+    is != 0
 }

@@ -4,6 +4,7 @@
 //! buildings may stand. A [`Planner`] prepares the movers. It begins [searches](Planner::search), which list the
 //! sets of buildings that wall the first mover off, and [judges](Planner::judge) selections of your own. Between searches a
 //! building is dragged by [lifting](Planner::lift) it and [covering](Planner::cover) it elsewhere, without preparing anew.
+//! Places are sorted by their distance from an entrance with [`rank`].
 //!
 //! A wall is a set of placements, within each group's slots and with no footprints overlapping, that leaves both ends open to
 //! the blocked mover, leaves it no route, gives it one again when any single member is lifted, and leaves the allowed mover,
@@ -48,12 +49,16 @@ mod answers;
 mod areas;
 mod calls;
 mod planner;
+mod ranks;
 mod refusal;
 mod search;
 mod values;
 
 pub use answers::{Judgement, Reason, Verdict};
 pub use planner::Planner;
+pub use ranks::{rank, Rank};
 pub use refusal::{Kind, Mover, Refusal};
 pub use search::{Layout, Layouts, Members, Route, Search};
-pub use values::{Bounds, Limits, Map, Placement, Plan, Position, Rect, Tile, ORIGINAL_STEPS};
+pub use values::{
+    Bounds, Limits, Map, Placement, Plan, Position, Rect, Site, Tile, ORIGINAL_STEPS,
+};

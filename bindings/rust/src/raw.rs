@@ -1,7 +1,7 @@
-//! The seven functions of the static library, as C declares them (`bindings/walls.h` tells of each parameter).
+//! The nine functions of the static library, as C declares them (`bindings/walls.h` tells of each parameter).
 //!
-//! A slice is two arguments: a pointer, then the number of elements. Each function answers 0 where it accepted the call, else
-//! the number of its refusal, and writes only within the lengths it is given.
+//! A slice is two arguments: a pointer, then the number of elements. Each function but [`hitrovzen_closer`] answers 0 where it
+//! accepted the call, else the number of its refusal, and writes only within the lengths it is given.
 //!
 //! # Safety
 //!
@@ -290,5 +290,35 @@ extern "C" {
         index: *mut u32,
         verdict: *mut u32,
         ground: *mut u32,
+    ) -> u32;
+
+    /// Tells how far a footprint lies from an entrance: quotient + remainder / divisor is the squared distance in pixels. All three
+    /// are 0 where it lies beyond the radius, and on a refusal.
+    pub fn hitrovzen_rank(
+        across: u32,
+        down: u32,
+        first_x: u32,
+        first_y: u32,
+        second_x: u32,
+        second_y: u32,
+        radius: u32,
+        footprint_left: i32,
+        footprint_top: i32,
+        footprint_right: i32,
+        footprint_bottom: i32,
+        quotient: *mut u64,
+        remainder: *mut u64,
+        divisor: *mut u64,
+    ) -> u32;
+
+    /// Tells whether the first of two ranks is the closer one: 1 if it is, else 0. Three numbers that are no rank are farther than
+    /// every rank.
+    pub fn hitrovzen_closer(
+        quotient: u64,
+        remainder: u64,
+        divisor: u64,
+        other_quotient: u64,
+        other_remainder: u64,
+        other_divisor: u64,
     ) -> u32;
 }

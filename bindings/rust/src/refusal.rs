@@ -34,7 +34,8 @@ pub enum Kind {
     // 13 is reserved: no call gives it.
     /// Over 6,144 placements.
     TooManyPlacements = 14,
-    /// Spec index, group or a rectangle of the placement whose index is given; or an empty rectangle to cover or lift.
+    /// Spec index, group or a rectangle of the placement whose index is given; or an empty rectangle to cover or lift; or a footprint
+    /// to rank that is empty or not inside the map.
     PlacementInvalid = 15,
     /// The record is not that of a search over these inputs. A [`Search`](crate::Search) keeps its own, so it does not meet it.
     RecordInvalid = 16,
@@ -45,9 +46,12 @@ pub enum Kind {
     StepsInvalid = 19,
     /// A cover that would pass 255, or a lift that would pass zero.
     CountOutOfRange = 20,
+    // No call gives 21.
+    /// The radius or the ends of an entrance.
+    SiteInvalid = 22,
 }
 
-const KINDS: [(Kind, &str); 19] = [
+const KINDS: [(Kind, &str); 20] = [
     (Kind::Unnamed, "The archive gave a number that its contract excludes."),
     (Kind::MapInvalid, "The map is not 1 to 1,024 cells each way, has not one byte a cell, or has a cell byte that is neither 0 nor 1."),
     (Kind::WindowInvalid, "The window is empty, has a negative edge, reaches beyond the map or has more than 1,048,576 centres."),
@@ -62,11 +66,12 @@ const KINDS: [(Kind, &str); 19] = [
     (Kind::StateLimitInvalid, "The state limit is not 1 to 100,000."),
     (Kind::ResultLimitInvalid, "The result limit is not 1 to 32."),
     (Kind::TooManyPlacements, "There are more than 6,144 placements."),
-    (Kind::PlacementInvalid, "A placement has a spec index above 5, no such group, an empty rectangle or a footprint not wholly inside the window; or the rectangle to cover or lift is empty."),
+    (Kind::PlacementInvalid, "A placement has a spec index above 5, no such group, an empty rectangle or a footprint not wholly inside the window; or the rectangle to cover or lift is empty; or the footprint to rank is empty or not wholly inside the map."),
     (Kind::RecordInvalid, "The record and its areas are not those of a search over these inputs."),
     (Kind::SelectionInvalid, "No layout has this number, or the selection does not ascend strictly, names no placement or has more than 6."),
     (Kind::StepsInvalid, "The table of steps is not 16 numbers, or does not hold each of the eight steps exactly once."),
     (Kind::CountOutOfRange, "A cover would take a count above 255, or a lift one below zero."),
+    (Kind::SiteInvalid, "The radius is above 1,024, an entrance point lies beyond the map, or the two entrance points are equal."),
 ];
 
 /// One of a planner's two movers.
@@ -140,7 +145,7 @@ impl Refusal {
     }
 
     /// The index of the first placement that is not taken, where a search or a judgement was refused with 15. A rectangle to cover
-    /// or lift has none.
+    /// or lift and a footprint to rank have none.
     pub fn index(&self) -> Option<usize> {
         self.index
     }
@@ -183,12 +188,12 @@ mod tests {
 
     #[test]
     fn numbers_are_those_of_the_library() {
-        let numbers = (0..=12).chain(14..=17).chain(19..=20);
+        let numbers = (0..=12).chain(14..=17).chain(19..=20).chain([22]);
         assert!(numbers.eq(KINDS.iter().map(|(kind, _)| *kind as u32)));
         for (kind, _) in KINDS {
             assert_eq!(Refusal::numbered(kind as u32, None).kind(), kind);
         }
-        for number in [13, 18, 21, 99, u32::MAX] {
+        for number in [13, 18, 21, 23, 99, u32::MAX] {
             assert_eq!(Refusal::numbered(number, Some(7)), Refusal::UNNAMED);
         }
     }

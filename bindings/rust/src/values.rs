@@ -264,6 +264,30 @@ pub const ORIGINAL_STEPS: [(i32, i32); 8] = [
     (1, -1),
 ];
 
+/// Where buildings are wanted: around an entrance, the line between two points.
+///
+/// [`rank`](crate::rank) tells how far a footprint lies from it. Which of the points is the first changes no answer.
+#[derive(Clone, Copy, Debug, PartialEq, Eq, Hash)]
+pub struct Site {
+    /// One end of the entrance, in map pixels. It may lie on the map's right and lower edge.
+    pub first: Position,
+    /// The other end, at another point.
+    pub second: Position,
+    /// How far from the entrance a footprint's centre may lie, in pixels, 0 to 1,024.
+    pub radius: u32,
+}
+
+impl Site {
+    /// The site around the line between these points, as far as this radius.
+    pub const fn new(first: Position, second: Position, radius: u32) -> Self {
+        Self {
+            first,
+            second,
+            radius,
+        }
+    }
+}
+
 /// All that a planner is asked about.
 #[derive(Clone, Debug, PartialEq, Eq)]
 pub struct Plan {

@@ -3,9 +3,10 @@
 const RAW: &str = include_str!("../src/raw.rs");
 const HEADER: &str = include_str!("../../walls.h");
 
-const TYPES: [(&str, &str); 11] = [
+const TYPES: [(&str, &str); 13] = [
     ("u32", "uint32_t "),
     ("i32", "int32_t "),
+    ("u64", "uint64_t "),
     ("usize", "size_t "),
     ("*const u8", "const uint8_t *"),
     ("*const u16", "const uint16_t *"),
@@ -15,6 +16,7 @@ const TYPES: [(&str, &str); 11] = [
     ("*mut u16", "uint16_t *"),
     ("*mut u32", "uint32_t *"),
     ("*mut i32", "int32_t *"),
+    ("*mut u64", "uint64_t *"),
 ];
 
 /// Name and parameters of each function whose declaration begins with `open` and ends with `close`.
@@ -47,7 +49,9 @@ fn the_declarations_agree() {
     let rust = declared(RAW, "pub fn ", ") -> u32;");
     let c = declared(HEADER, "\nuint32_t ", ");");
     let names: Vec<&str> = rust.iter().map(|(name, _)| *name).collect();
-    let calls = ["prepare", "cover", "lift", "begin", "step", "read", "judge"];
+    let calls = [
+        "prepare", "cover", "lift", "begin", "step", "read", "judge", "rank", "closer",
+    ];
     assert_eq!(names, calls.map(|call| format!("hitrovzen_{call}")));
     assert_eq!(rust.len(), c.len());
     for ((rust_name, rust), (c_name, c)) in rust.iter().zip(&c) {

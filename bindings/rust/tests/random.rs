@@ -10,26 +10,9 @@ use hitrovzen::{
     Verdict, ORIGINAL_STEPS,
 };
 
-/// splitmix64
-struct Dice(u64);
+mod dice;
 
-impl Dice {
-    fn roll(&mut self) -> u64 {
-        self.0 = self.0.wrapping_add(0x9E37_79B9_7F4A_7C15);
-        let mut z = self.0;
-        z = (z ^ (z >> 30)).wrapping_mul(0xBF58_476D_1CE4_E5B9);
-        z = (z ^ (z >> 27)).wrapping_mul(0x94D0_49BB_1331_11EB);
-        z ^ (z >> 31)
-    }
-
-    fn below(&mut self, n: u64) -> u64 {
-        self.roll() % n
-    }
-
-    fn one_of<T: Copy>(&mut self, values: &[T]) -> T {
-        values[self.below(values.len() as u64) as usize]
-    }
-}
+use dice::Dice;
 
 /// A window of at most 8 × 6 centres with at most six placements, most of them columns that stand in the way.
 fn small(dice: &mut Dice) -> Plan {

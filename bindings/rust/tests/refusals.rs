@@ -257,7 +257,7 @@ fn rectangles_that_are_empty() {
         assert_eq!(refusal.index(), None);
         assert!(refusal
             .to_string()
-            .ends_with("or the rectangle to cover or lift is empty."));
+            .contains("or the rectangle to cover or lift is empty;"));
     }
     assert_eq!(planner.baseline(Mover::Block), [0; 15]);
 }

@@ -219,6 +219,16 @@ pub fn crowded(size: Size, states: u32) -> Case {
     }
 }
 
+/// The placements of `crowded` about an entrance between the ends, which stand a quarter of the window in from two corners.
+pub fn about_entrance(size: Size) -> Case {
+    let (width, height) = (size.0 as u32, size.1 as u32);
+    Case {
+        start: (width / 4, height / 4),
+        end: (width - width / 4, height - height / 4),
+        ..crowded(size, 20)
+    }
+}
+
 /// A corridor two rows high that winds down the window, run by run, from pixel 0 0. Under each run lies a bank, with an opening at its right or
 /// left end in turn; the last has none.
 struct Winding {

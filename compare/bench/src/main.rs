@@ -2,10 +2,10 @@
 //! search in that order of steps, which is compared with the judge's reading, beside the original's in its own.
 //!
 //! `bench` prints the lines, `bench --markdown` the rows of the table in docs/PERFORMANCE.md. `bench --only TEXT` takes the cases whose
-//! name or window has the text, so `bench --only drag` those of cover and lift, `bench --only judge` those of judging and
-//! `bench --only diagonals` those in another order. With `--port` or `--original` besides it runs one side once, for a profiler.
-//! `--cpu` takes the processor's time of this thread in place of the time on the wall: on a machine that does other work too, what it
-//! does meanwhile is then left out.
+//! name or window has the text, so `bench --only drag` those of cover and lift, `bench --only judge` those of judging,
+//! `bench --only footprints` those of rank and `bench --only diagonals` those in another order. With `--port` or `--original` besides
+//! it runs one side once, for a profiler. `--cpu` takes the processor's time of this thread in place of the time on the wall: on a
+//! machine that does other work too, what it does meanwhile is then left out.
 
 mod clock;
 mod inputs;
@@ -210,6 +210,20 @@ fn judgings(size: Size) -> Vec<Line> {
     ]
 }
 
+/// 6,144 calls of rank, with a radius of a quarter of the window's height.
+fn ranks(size: Size) -> Vec<Line> {
+    let radius = size.1 as u32 / 4;
+    let work = Work::Rank { radius };
+    let name = "rank of 6,144 footprints";
+    vec![line(
+        name,
+        size,
+        inputs::about_entrance,
+        work,
+        Buffers::AsLeft,
+    )]
+}
+
 /// Searches of lines above in another order of steps: one route, several, kept routes, long routes with many placements beside them.
 fn diagonals_first(size: Size) -> Vec<Line> {
     let few = several(size);
@@ -282,6 +296,7 @@ fn main() {
         .chain(many_on_small())
         .chain([MIDDLE, LARGE].into_iter().flat_map(drags))
         .chain([SMALL, MIDDLE, LARGE].into_iter().flat_map(judgings))
+        .chain([MIDDLE, LARGE].into_iter().flat_map(ranks))
         .chain([MIDDLE, LARGE].into_iter().flat_map(diagonals_first));
     if has("--cpu") {
         clock::take_processor_time();

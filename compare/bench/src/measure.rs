@@ -28,6 +28,10 @@ pub enum Work {
     },
     /// A selection judged.
     Judge(Vec<u16>),
+    /// Every placement ranked, a call each.
+    Rank {
+        radius: u32,
+    },
 }
 
 pub struct Line {
@@ -85,6 +89,7 @@ pub fn timed(side: &mut dyn Side, line: &Line) -> Duration {
             side.lend(line.buffers);
             clock(|| side.judge(selection))
         }
+        Work::Rank { radius } => clock(|| side.rank(*radius)),
     }
 }
 
@@ -159,6 +164,12 @@ fn compared(
             let judged = port.judged();
             assert_eq!(judged, original.judged(), "{name}: two judgements");
             judged.to_string()
+        }
+        Work::Rank { .. } => {
+            let ranks = port.ranks();
+            assert!(ranks == original.ranks(), "{name}: two rows of ranks");
+            let ranked = ranks.iter().flatten().count();
+            format!("{ranked} of {} ranked", ranks.len())
         }
         Work::Begin | Work::Steps { .. } => {
             let outcome = port.outcome();

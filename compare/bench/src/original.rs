@@ -18,6 +18,7 @@ pub struct Original<'a> {
     deeper: Case,
     /// The selection last judged, and its verdict.
     judged: Option<(Vec<u32>, u32)>,
+    ranks: Vec<Option<u64>>,
 }
 
 /// The case with the window two rows higher and the end in the last row.
@@ -45,6 +46,7 @@ impl<'a> Original<'a> {
             search: None,
             deeper: deeper(case),
             judged: None,
+            ranks: Vec::new(),
         }
     }
 
@@ -129,6 +131,15 @@ impl Side for Original<'_> {
         self.judged = Some((set, number));
     }
 
+    fn rank(&mut self, radius: u32) {
+        let entrance = [self.case.start, self.case.end];
+        self.ranks.clear();
+        self.ranks.extend(self.case.placements.iter().map(|place| {
+            let rank = probe::distance_rank(place.footprint, entrance, radius);
+            rank.map(|whole| whole as u64)
+        }));
+    }
+
     fn baseline(&self) -> Vec<bool> {
         self.made.clone().expect("a baseline that was prepared")
     }
@@ -140,6 +151,10 @@ impl Side for Original<'_> {
             verdict: *verdict,
             ground: ground::reached(&self.cover(set), self.case.window, self.case.start),
         }
+    }
+
+    fn ranks(&self) -> &[Option<u64>] {
+        &self.ranks
     }
 
     fn outcome(&self) -> Outcome {

@@ -34,6 +34,7 @@ pub struct Port<'a> {
     /// Where a dragged building stands, once `baseline` holds the counts of a drag.
     standing: Option<Rect>,
     judged: Judged,
+    ranks: Vec<Option<u64>>,
 }
 
 /// Cover and lift: window, mover, rectangle, baseline.
@@ -102,6 +103,7 @@ impl<'a> Port<'a> {
                 verdict: 0,
                 ground: 0,
             },
+            ranks: Vec::new(),
         }
     }
 
@@ -465,12 +467,48 @@ impl Side for Port<'_> {
         assert_eq!(answer, 0, "an accepted judging");
     }
 
+    fn rank(&mut self, radius: u32) {
+        let Case {
+            map, start, end, ..
+        } = self.case;
+        self.ranks.clear();
+        self.ranks.extend(self.case.placements.iter().map(|place| {
+            let footprint = place.footprint;
+            let (mut quotient, mut remainder, mut divisor) = (0, 0, 0);
+            // The three pointers are to numbers of their own.
+            let answer = unsafe {
+                raw::hitrovzen_rank(
+                    map.0,
+                    map.1,
+                    start.0,
+                    start.1,
+                    end.0,
+                    end.1,
+                    radius,
+                    footprint.left,
+                    footprint.top,
+                    footprint.right,
+                    footprint.bottom,
+                    &mut quotient,
+                    &mut remainder,
+                    &mut divisor,
+                )
+            };
+            assert_eq!(answer, 0, "an accepted footprint");
+            (divisor != 0).then_some(quotient)
+        }));
+    }
+
     fn baseline(&self) -> Vec<bool> {
         self.baseline.iter().map(|&count| count != 0).collect()
     }
 
     fn judged(&self) -> Judged {
         self.judged
+    }
+
+    fn ranks(&self) -> &[Option<u64>] {
+        &self.ranks
     }
 
     fn outcome(&self) -> Outcome {

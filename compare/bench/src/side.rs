@@ -35,10 +35,16 @@ pub trait Side {
     /// the ground.
     fn judge(&mut self, selection: &[u16]);
 
+    /// Ranks every placement's footprint by its distance from an entrance between the case's ends, up to this radius.
+    fn rank(&mut self, radius: u32);
+
     fn baseline(&self) -> Vec<bool>;
 
     /// What the selection last judged comes to.
     fn judged(&self) -> Judged;
+
+    /// The whole part of each rank last given, none beyond the radius.
+    fn ranks(&self) -> &[Option<u64>];
 
     fn outcome(&self) -> Outcome;
 

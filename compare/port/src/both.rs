@@ -1,14 +1,17 @@
 //! One call made to both sides from the same values, and everything it leaves compared. The expected answer of a refusal is
 //! `rules`'; what an accepted call leaves is the original's, and in another order of steps than the original's that of the judge's `order`.
+//! A rank's quotient is the original's, and so is what it is refused with 22 for; the rest of it, 1, 15 and which of two is closer are
+//! read by `distances`.
 
 use judge::order::{ORIGINAL_STEPS, Ordered};
 use judge::walls::search::probe;
 use judge::{Baselines, Case, Mover, Search, Snapshot, count};
 
 use crate::covers::{self, Change};
+use crate::distances::{self, Measured};
 use crate::port;
 use crate::rules::{self, Judged};
-use crate::values::{Building, Inputs, Query, Store, Terrain, Word, Work, rect};
+use crate::values::{Asked, Building, Inputs, Query, Rank, Store, Terrain, Word, Work, rect};
 
 /// What differs, in words.
 pub type Difference = String;
@@ -291,4 +294,44 @@ pub fn alter(change: Change, building: &Building, baseline: &mut [u8]) -> Result
     same_area(call, "bytes behind the baseline", &around, behind)?;
     baseline.copy_from_slice(found);
     Ok(answer)
+}
+
+/// Ranks a footprint. The measure of an accepted one, or the refusal, once all agree.
+pub fn rank(asked: &Asked) -> Result<Result<Measured, u32>, Difference> {
+    let (answer, numbers) = port::rank(asked);
+    let entrance = [asked.first, asked.second].map(|[x, y]| (x, y));
+    let [no_map, no_site, _] = distances::faults(asked);
+    let pixels = |cells: u32| 8 * i64::from(cells);
+    if !no_map && no_site == probe::site_fits(entrance, asked.radius, (pixels(asked.across), pixels(asked.down))) {
+        return Err("rank: the reading and the original differ in whether the entrance is taken".into());
+    }
+    let number = distances::refusal(asked);
+    same("rank's answer", &number.unwrap_or(0), &answer)?;
+    if let Some(number) = number {
+        same("rank's numbers on a refusal", &[0; 3], &numbers)?;
+        return Ok(Err(number));
+    }
+    let original = probe::distance_rank(rect(&asked.footprint), entrance, asked.radius);
+    let measured = distances::measured(asked);
+    let quotient = measured.has_rank().then_some((measured.numerator / measured.divisor) as u128);
+    if quotient != original {
+        return Err(format!("rank: the reading and the original differ: {quotient:?}, and {original:?}"));
+    }
+    let Some(quotient) = original else {
+        same("rank's numbers beyond the radius", &[0; 3], &numbers)?;
+        return Ok(Ok(measured));
+    };
+    let [found, remainder, divisor] = numbers.map(i128::from);
+    same("a rank's quotient", &quotient, &(found as u128))?;
+    same("a rank's divisor", &measured.divisor, &divisor)?;
+    same("a rank's numerator", &measured.numerator, &(found * divisor + remainder))?;
+    same("whether a rank's remainder is below its divisor", &true, &(remainder < divisor))?;
+    Ok(Ok(measured))
+}
+
+/// Whether the first of two ranks, or of any numbers in their place, is closer, once both agree.
+pub fn closer(a: Rank, b: Rank) -> Result<bool, Difference> {
+    let is_closer = distances::order(a, b).is_lt();
+    same("closer's answer", &u32::from(is_closer), &port::closer(a, b))?;
+    Ok(is_closer)
 }

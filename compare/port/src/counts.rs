@@ -18,6 +18,11 @@ pub const JUDGE: usize = 4;
 pub const COVER: usize = 5;
 pub const LIFT: usize = 6;
 
+/// The calls that take no window, numbered after those.
+pub const WITHOUT_WINDOW: [&str; 2] = ["rank", "closer"];
+pub const RANK: usize = 7;
+pub const CLOSER: usize = 8;
+
 /// By call and answer, 0 for accepted.
 pub type Answers = [[u64; 21]; 7];
 

@@ -5,14 +5,18 @@
 
 mod both;
 mod buildings;
+mod closer;
 mod counted;
 mod counts;
 mod covers;
+mod distances;
+mod entrances;
 mod large;
 mod medium;
 mod million;
 mod orders;
 mod port;
+mod ranks;
 mod refusals;
 mod rules;
 mod searches;
@@ -70,6 +74,8 @@ fn run(seed: u64, searches: u64) -> Result<(), String> {
     counted::run(seed, searches / 8, &mut counts, &progress)?;
     buildings::run(seed, searches, &mut counts)?;
     progress("buildings covered and lifted");
+    ranks::run(seed, 6 * searches)?;
+    progress("footprints ranked");
     large::run(seed, &mut counts, &progress)?;
     million::run(&mut counts)?;
     progress("1,000,000 points done");

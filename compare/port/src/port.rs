@@ -1,10 +1,10 @@
-//! The port's seven calls, over the values of `values`.
+//! The port's nine calls, over the values of `values`.
 
 use hitrovzen::raw;
 
-use crate::counts::{BEGIN, COVER, JUDGE, LIFT, PREPARE, READ, STEP};
+use crate::counts::{BEGIN, CLOSER, COVER, JUDGE, LIFT, PREPARE, RANK, READ, STEP};
 use crate::spoil::Spoiler;
-use crate::values::{Building, Inputs, Query, Store, Terrain, Word, Work};
+use crate::values::{Asked, Building, Inputs, Query, Rank, Store, Terrain, Word, Work};
 
 /// A call's answer and the index that goes with it.
 pub type Answer = (u32, u32);
@@ -149,5 +149,27 @@ pub fn lift(building: &Building, baseline: &mut [u8]) -> u32 {
     let spoil = Spoiler::after(LIFT, answer);
     spoil.number("answer", &mut answer);
     spoil.area("baseline", "past the baseline", baseline);
+    answer
+}
+
+pub fn rank(asked: &Asked) -> (u32, Rank) {
+    let Asked { across, down, first, second, radius, footprint } = *asked;
+    let (mut quotient, mut remainder, mut divisor) = (u64::PAST, u64::PAST, u64::PAST);
+    let mut answer = call!(@ hitrovzen_rank, ();
+        number across; number down; number first[0]; number first[1]; number second[0]; number second[1]; number radius;
+        number footprint[0]; number footprint[1]; number footprint[2]; number footprint[3];
+        place quotient; place remainder; place divisor;);
+    let spoil = Spoiler::after(RANK, answer);
+    spoil.number("answer", &mut answer);
+    spoil.wide("quotient", &mut quotient);
+    spoil.wide("remainder", &mut remainder);
+    spoil.wide("divisor", &mut divisor);
+    (answer, [quotient, remainder, divisor])
+}
+
+pub fn closer(a: Rank, b: Rank) -> u32 {
+    let mut answer = call!(@ hitrovzen_closer, ();
+        number a[0]; number a[1]; number a[2]; number b[0]; number b[1]; number b[2];);
+    Spoiler::after(CLOSER, answer).number("answer", &mut answer);
     answer
 }

@@ -6,12 +6,13 @@ use judge::generate::Generator;
 use judge::order::ORIGINAL_STEPS;
 
 use crate::buildings;
-use crate::counts::{BEGIN, CALLS, COVER, Counts, JUDGE, LIFT, PREPARE, READ, STEP};
+use crate::counts::{BEGIN, CALLS, CLOSER, COVER, Counts, JUDGE, LIFT, PREPARE, RANK, READ, STEP, WITHOUT_WINDOW};
+use crate::ranks;
 use crate::refusals;
 use crate::searches;
 use crate::values::{Store, Word, Work};
 
-/// A value of a call, of its refused answers or of its accepted ones.
+/// A value of a call, of its refused answers or of its accepted ones. An answer of `closer` counts as refused where it is 1.
 #[derive(Clone, Copy, PartialEq, Eq)]
 struct Value {
     call: usize,
@@ -33,6 +34,12 @@ impl Spoiler {
     }
 
     pub fn number(self, what: &str, number: &mut u32) {
+        if self.0 == Some(what) {
+            *number = number.wrapping_add(1);
+        }
+    }
+
+    pub fn wide(self, what: &str, number: &mut u64) {
         if self.0 == Some(what) {
             *number = number.wrapping_add(1);
         }
@@ -104,6 +111,8 @@ pub fn run(seed: u64) -> Result<usize, String> {
     all(JUDGE, &["answer", "index", "verdict", "ground"]);
     all(COVER, &["answer", "baseline", "past the baseline"]);
     all(LIFT, &["answer", "baseline", "past the baseline"]);
+    all(RANK, &["answer", "quotient", "remainder", "divisor"]);
+    all(CLOSER, &["answer"]);
     for call in [PREPARE, BEGIN, STEP, JUDGE] {
         all(call, &WORK);
     }
@@ -115,14 +124,18 @@ pub fn run(seed: u64) -> Result<usize, String> {
         let found = found(seed, value);
         SPOILT.set(None);
         if !found {
-            return Err(format!("{} of {} altered, refused: {}, and nothing shows it", value.what, CALLS[value.call], value.refused));
+            let name = CALLS.iter().chain(&WITHOUT_WINDOW).nth(value.call).expect("one of the calls");
+            return Err(format!("{} of {name} altered, refused: {}, and nothing shows it", value.what, value.refused));
         }
     }
     Ok(values.len())
 }
 
-/// Whether one of the first searches differs, or one of the first altered ones, or one of the first buildings.
+/// Whether one of the first searches differs, or one of the first altered ones, one of the first buildings or one of the first ranks.
 fn found(seed: u64, value: Value) -> bool {
+    if value.call == RANK || value.call == CLOSER {
+        return ranks::calls(seed, 200).is_err();
+    }
     let mut generator = Generator::new(seed);
     if value.refused {
         return refusals::run(seed, 100, &mut Counts::default(), &|_| ()).is_err();

@@ -39,6 +39,7 @@ word!(u8, 0xA5);
 word!(u16, 0xBEEF);
 word!(u32, 0xDEAD_BEEF);
 word!(i32, -77_777);
+word!(u64, 0xDEAD_BEEF_F00D_CAFE);
 
 /// Zeros up to `need`, then what must not be touched.
 pub fn clean<T: Word>(need: usize) -> Vec<T> {
@@ -79,6 +80,22 @@ pub struct Building {
     pub mover: [u32; 4],
     pub rect: [i32; 4],
 }
+
+/// What rank takes.
+#[derive(Debug, Clone, Copy, PartialEq, Eq)]
+pub struct Asked {
+    /// The map's size in walk cells.
+    pub across: u32,
+    pub down: u32,
+    /// The entrance's ends.
+    pub first: [u32; 2],
+    pub second: [u32; 2],
+    pub radius: u32,
+    pub footprint: [i32; 4],
+}
+
+/// Quotient, remainder and divisor.
+pub type Rank = [u64; 3];
 
 #[derive(Debug, Clone)]
 pub struct Inputs {

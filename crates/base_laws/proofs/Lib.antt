@@ -1,4 +1,6 @@
 pub mod Ints
+pub mod Magnitudes
+pub mod Products
 pub mod Members
 pub mod Distinct
 pub mod Lists

@@ -42,6 +42,12 @@ pub neither : (a b : Bool) → a || b ≡ false → (a ≡ false) × (b ≡ fals
 neither true b e = absurd (true≢false e)
 neither false b e = (refl, e)
 
+-- two tests of which each passes where the other does
+pub same-truth : (a b : Bool) → (a ≡ true → b ≡ true) → (b ≡ true → a ≡ true) → a ≡ b
+same-truth true b there back = sym (there refl)
+same-truth false true there back = back refl
+same-truth false false there back = refl
+
 module _ {A : Type 0} (f : A → Bool) where
   pub any-member : (xs : List A) → anyOf f xs ≡ true → (x : A) × List·Memᴰ x xs × (f x ≡ true)
   unfolding anyOf

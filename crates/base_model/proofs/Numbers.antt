@@ -20,10 +20,12 @@ use Rattle.base_model.specs.declared.Refusal.the-variants.{
   TooManyPlacements,
   PlacementInvalid,
   RectangleEmpty,
+  FootprintInvalid,
   RecordInvalid,
   SelectionInvalid,
   StepsInvalid,
   CountOutOfRange,
+  SiteInvalid,
 }
 use Rattle.base_model.specs.declared.Answer.the-variants.{Done, Refused}
 use Rattle.base_model.specs.Answers.{refusal, saidOf, replyOf}
@@ -47,10 +49,12 @@ refusals =
     ∷ (PlacementInvalid 0, 15, 0 ∷ [])
     ∷ (PlacementInvalid 7, 15, 7 ∷ [])
     ∷ (RectangleEmpty, 15, [])
+    ∷ (FootprintInvalid, 15, [])
     ∷ (RecordInvalid, 16, [])
     ∷ (SelectionInvalid, 17, [])
     ∷ (StepsInvalid, 19, [])
     ∷ (CountOutOfRange, 20, [])
+    ∷ (SiteInvalid, 22, [])
     ∷ []
 
 pub said : map (λ (r : Refusal × ℕ × List ℕ). saidOf (r .0)) refusals ≡ map (λ (r : Refusal × ℕ × List ℕ). record { number = r .1; values = r .2 }) refusals

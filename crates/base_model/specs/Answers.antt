@@ -21,10 +21,12 @@ use Rattle.base_model.specs.declared.Refusal.the-variants.{
   TooManyPlacements,
   PlacementInvalid,
   RectangleEmpty,
+  FootprintInvalid,
   RecordInvalid,
   SelectionInvalid,
   StepsInvalid,
   CountOutOfRange,
+  SiteInvalid,
 }
 use Rattle.base_model.specs.declared.Answer.{Answer}
 use Rattle.base_model.specs.declared.Answer.the-variants.{Done, Refused}
@@ -65,10 +67,12 @@ saidOf ResultLimitInvalid = refusal 12
 saidOf TooManyPlacements = refusal 14
 saidOf (PlacementInvalid i) = record { number = 15; values = i ∷ [] }
 saidOf RectangleEmpty = refusal 15
+saidOf FootprintInvalid = refusal 15
 saidOf RecordInvalid = refusal 16
 saidOf SelectionInvalid = refusal 17
 saidOf StepsInvalid = refusal 19
 saidOf CountOutOfRange = refusal 20
+saidOf SiteInvalid = refusal 22
 
 -- none where the call is accepted
 unfoldable pub replyOf : Answer → Option Said

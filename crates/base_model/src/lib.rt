@@ -65,6 +65,9 @@ pub const CENTRES: usize = 1048576;
 // How far a mover reaches at most.
 pub const REACH: u32 = 256;
 
+// How far from the entrance a placement may stand at most, in pixels.
+pub const RADIUS: u32 = 1024;
+
 // How many obstacles and how many placements there are at most, and the last spec index.
 pub const OBSTACLES: usize = 4096;
 
@@ -148,10 +151,12 @@ pub enum Refusal {
     // with the index of the first such placement
     PlacementInvalid(u32),
     RectangleEmpty,
+    FootprintInvalid,
     RecordInvalid,
     SelectionInvalid,
     StepsInvalid,
     CountOutOfRange,
+    SiteInvalid,
 }
 
 // The answer of a call that leaves its result in the areas.
@@ -180,6 +185,28 @@ pub enum Verdict {
 // The answer of judging: a verdict with the ground left.
 pub enum Judged {
     Verdict(Verdict, u32),
+    Refused(Refusal),
+}
+
+// Where placements are wanted: around the entrance, the line from the first point to the second, no farther from it than the radius in
+// pixels.
+pub struct Site {
+    pub first: Position,
+    pub second: Position,
+    pub radius: u32,
+}
+
+// A placement's squared distance from the entrance in pixels: quotient + remainder / divisor.
+pub struct Rank {
+    pub quotient: u64,
+    pub remainder: u64,
+    pub divisor: u64,
+}
+
+// The answer of ranking: a placement beyond the radius has no rank.
+pub enum Ranked {
+    Rank(Rank),
+    Beyond,
     Refused(Refusal),
 }
 
@@ -217,10 +244,12 @@ pub fn refusal_number(refusal: Refusal) -> u32
         Refusal::TooManyPlacements => 14,
         Refusal::PlacementInvalid(_) => 15,
         Refusal::RectangleEmpty => 15,
+        Refusal::FootprintInvalid => 15,
         Refusal::RecordInvalid => 16,
         Refusal::SelectionInvalid => 17,
         Refusal::StepsInvalid => 19,
         Refusal::CountOutOfRange => 20,
+        Refusal::SiteInvalid => 22,
     }
 }
 

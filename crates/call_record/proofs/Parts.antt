@@ -9,7 +9,7 @@ use lib.IntN.{ℤ}
 use lib.ListN.{length, take}
 use borrow.Author.Tests.{le-leb, leb-true, eq-eqb, eqb-true}
 use Rattle.base_laws.specs.Lists.{allOf, below, total}
-use Rattle.base_laws.proofs.Members.{both, both-true, all-member, all-true}
+use Rattle.base_laws.proofs.Members.{both, both-true, same-truth, all-member, all-true}
 use Rattle.base_model.specs.declared.Allow.{Allow}
 use Rattle.base_model.specs.declared.Allow.the-variants.{Nobody, Bounded}
 use Rattle.base_model.specs.declared.Limits.{Limits}
@@ -24,7 +24,6 @@ use Rattle.rule_search.specs.State.{Running}
 use Rattle.rule_calls.specs.Areas.{Store, numberOf, storeIn}
 use Rattle.rule_calls.specs.RecordCheck.{layoutsFit, rowFits, routesFit, stoodOn, listFits, recordFits}
 use Rattle.call_rows.specs.Figures.{figuresFit, capOf, routesPass}
-use Rattle.call_rows.proofs.Tests.{same-truth}
 use Rattle.call_lists.specs.Lent.{entryFits, headFits, stood, listPasses}
 use Rattle.call_lists.proofs.Tests.{all-same}
 

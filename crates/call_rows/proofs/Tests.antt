@@ -11,14 +11,9 @@ use lib.ListN.{length, getD, drop, drop-of-length-le}
 use lib.Seq.{drop-cons}
 use borrow.Author.Tests.{le-leb, leb-true, lt-leb, lt-ltb, le-ltb}
 use Rattle.base_laws.specs.Lists.{allOf, span, below, total, ascends}
-use Rattle.base_laws.proofs.Members.{either, both, both-true, all-member, below-in}
+use Rattle.base_laws.proofs.Members.{either, both, both-true, same-truth, all-member, below-in}
 use Rattle.base_laws.proofs.Sets.{ascends-head, ascends-tail, ascends-cons}
 use Rattle.base_laws.proofs.Tests.{below-last}
-
-pub same-truth : (a b : Bool) → (a ≡ true → b ≡ true) → (b ≡ true → a ≡ true) → a ≡ b
-same-truth true b f g = sym (f refl)
-same-truth false true f g = g refl
-same-truth false false f g = refl
 
 -- ---- a test of each number below n
 all-append : {A : Type 0} (f : A → Bool) (xs ys : List A) → allOf f (xs ++ ys) ≡ (allOf f xs && allOf f ys)

@@ -20,8 +20,8 @@ use Rattle.base_laws.proofs.Tests.{any-append, any-map-filter}
 use Rattle.base_model.specs.declared.Rect.{Rect}
 use Rattle.base_model.specs.declared.Bounds.{Bounds}
 use Rattle.ground_rects.specs.Rects.{keepsOff, nonempty, rectsOf}
-use Rattle.ground_rects.specs.Windows.{width, centres, windowFits, pixelX, pixelY}
-use Rattle.ground_rects.proofs.Windows.{both, four, framed, column-lt, row-lt}
+use Rattle.ground_rects.specs.Windows.{sizeFits, width, centres, windowFits, pixelX, pixelY}
+use Rattle.ground_rects.proofs.Windows.{both, sized, framed, column-lt, row-lt}
 use Rattle.ground_rects.proofs.Rows.{rects-length, rects-part}
 use Rattle.ground_counts.specs.Counts.{bit, Counted}
 use Rattle.ground_baseline.specs.Baseline.{Map, mapFits, cellRect, offTerrain, offObstacle, offEdge, mark, baselineOf}
@@ -38,18 +38,14 @@ pub record Mapped (m : Map) : Type 0 where
 pub mapped : (m : Map) → mapFits m ≡ true → Mapped m
 unfolding mapFits
 mapped m e =
-    let a = leb 1 (m .across) in
-    let b = leb (m .across) 1024 in
-    let c = leb 1 (m .down) in
-    let d = leb (m .down) 1024 in
     let s = eqb (length (m .cells)) (m .across * m .down) in
-    let k = both (a && b && c && d && s) (allOf (λ (x : ℕ). leb x 1) (m .cells)) e in
-    let j = both (a && b && c && d) s (k .0) in
-    let i = four a b c d (j .0) in
+    let k = both (sizeFits (m .across) (m .down) && s) (allOf (λ (x : ℕ). leb x 1) (m .cells)) e in
+    let j = both (sizeFits (m .across) (m .down)) s (k .0) in
+    let i = sized (m .across) (m .down) (j .0) in
     record {
-      across-some = leb-true 1 (m .across) (i .0);
-      across-le = leb-true (m .across) 1024 (i .1 .0);
-      down-le = leb-true (m .down) 1024 (i .1 .1 .1);
+      across-some = i .across-some;
+      across-le = i .across-le;
+      down-le = i .down-le;
       size = eqb-true (length (m .cells)) (m .across * m .down) (j .1);
     }
 

@@ -10,7 +10,7 @@ use Rattle.base_laws.specs.Lists.{anyOf, allOf, below}
 use Rattle.base_model.specs.declared.Rect.{Rect}
 use Rattle.base_model.specs.declared.Bounds.{Bounds}
 use Rattle.ground_rects.specs.Rects.{rect, keepsOff}
-use Rattle.ground_rects.specs.Windows.{centres, pixelX, pixelY}
+use Rattle.ground_rects.specs.Windows.{sizeFits, centres, pixelX, pixelY}
 
 -- The map: so many walk cells each way, and their bytes row by row, 1 walkable and 0 not.
 pub record Map : Type 0 where
@@ -21,8 +21,7 @@ pub record Map : Type 0 where
 -- passes 1: map size (1 to 1,024 each way), cell count and cell bytes
 unfoldable pub mapFits : Map → Bool
 mapFits m =
-    leb 1 (m .across) && leb (m .across) 1024 && leb 1 (m .down) && leb (m .down) 1024
-    && eqb (length (m .cells)) (m .across * m .down) && allOf (λ (b : ℕ). leb b 1) (m .cells)
+    sizeFits (m .across) (m .down) && eqb (length (m .cells)) (m .across * m .down) && allOf (λ (b : ℕ). leb b 1) (m .cells)
 
 -- the pixels of cell k: 8 pixels a cell
 unfoldable pub cellRect : Map → ℕ → Rect

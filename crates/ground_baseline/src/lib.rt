@@ -1,7 +1,6 @@
 // What terrain and obstacles block: the counts of a window laid with rectangles, and a mover's baseline read off them.
 use base_model::Bounds;
 use base_model::CELL;
-use base_model::CELLS;
 use base_model::OBSTACLES;
 use base_model::Rect;
 use base_model::SIDES;
@@ -243,16 +242,7 @@ fn bytes_fit(cells: &[u8]) -> bool
 pub fn map_fits(across: u32, down: u32, cells: &[u8]) -> bool
     ensures { λ r. ⌜ r ≡ mapFits (record { across = across; down = down; cells = now (cells .entry) }) ⌝ }
 {
-    if across < 1 {
-        return false;
-    }
-    if across > CELLS {
-        return false;
-    }
-    if down < 1 {
-        return false;
-    }
-    if down > CELLS {
+    if !ground_rects::size_fits(across, down) {
         return false;
     }
     if cells.len() != across as usize * down as usize {

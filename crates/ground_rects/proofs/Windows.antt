@@ -1,4 +1,4 @@
--- What holds of a window that fits, in naturals: its edges are none below zero, and its columns and rows lie between them.
+-- What holds of a size that fits and of a window that fits, in naturals: the window's edges are none below zero, and its columns and rows lie between them.
 use mathlib.Core.Path.{_≡_, refl, ap}
 use mathlib.Core.Bool.{Bool, true, _&&_, and-eq-true-iff}
 use Prim.Native.Nat.{ℕ, _+_, _/_, _%_, _≤_, _<_}
@@ -13,7 +13,7 @@ use Rattle.base_laws.proofs.Ints.{minus-parts, natAbs-parts, ltZ-fact, leZ-fact
 use Rattle.base_model.specs.declared.Rect.{Rect}
 use Rattle.base_model.specs.declared.Bounds.{Bounds}
 use Rattle.ground_rects.specs.Rects.{nonempty, small}
-use Rattle.ground_rects.specs.Windows.{width, height, centres, windowFits}
+use Rattle.ground_rects.specs.Windows.{sizeFits, width, height, centres, windowFits}
 
 pub both : (a b : Bool) → (a && b) ≡ true → (a ≡ true) × (b ≡ true)
 both a b e = and-eq-true-iff a b .0 e
@@ -34,6 +34,18 @@ unfolding small
 bounded m e =
     let k = four (leb (m .left) 256) (leb (m .top) 256) (leb (m .right) 256) (leb (m .bottom) 256) e in
     record { left = leb-true (m .left) 256 (k .0); top = leb-true (m .top) 256 (k .1 .0); right = leb-true (m .right) 256 (k .1 .1 .0); bottom = leb-true (m .bottom) 256 (k .1 .1 .1) }
+
+pub record Sized (across down : ℕ) : Type 0 where
+  pub across-some : 1 ≤ across
+  pub across-le : across ≤ 1024
+  pub down-some : 1 ≤ down
+  pub down-le : down ≤ 1024
+
+pub sized : (across down : ℕ) → sizeFits across down ≡ true → Sized across down
+unfolding sizeFits
+sized across down e =
+    let k = four (leb 1 across) (leb across 1024) (leb 1 down) (leb down 1024) e in
+    record { across-some = leb-true 1 across (k .0); across-le = leb-true across 1024 (k .1 .0); down-some = leb-true 1 down (k .1 .1 .0); down-le = leb-true down 1024 (k .1 .1 .1) }
 
 -- the numbers from a up to b
 pub gap-parts : (a b : ℤ) → ltZ a b ≡ true → natAbs (b -ℤ a) + up a + dn b ≡ up b + dn a

@@ -1,4 +1,5 @@
--- The window, its ends and its centres: a centre is one pixel of the window, numbered row × width + column from the window's corner (RULES 1.4, 1.5, 1.6).
+-- The size of a map; the window, its ends and its centres: a centre is one pixel of the window, numbered row × width + column from the window's corner
+-- (RULES 1.1, 1.4, 1.5, 1.6).
 use Prim.Native.Nat.{ℕ, _+_, _*_, _/_, _%_}
 use mathlib.Core.Bool.{Bool, _&&_}
 use lib.Dec.{leb}
@@ -7,6 +8,10 @@ use lib.Signed.{leZ}
 use Rattle.base_model.specs.declared.Rect.{Rect}
 use Rattle.base_model.specs.declared.Position.{Position}
 use Rattle.ground_rects.specs.Rects.{nonempty, has}
+
+-- 1 to 1,024 walk cells each way
+unfoldable pub sizeFits : (across down : ℕ) → Bool
+sizeFits across down = leb 1 across && leb across 1024 && leb 1 down && leb down 1024
 
 unfoldable pub width : Rect → ℕ
 width w = natAbs (w .right -ℤ w .left)

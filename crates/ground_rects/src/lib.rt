@@ -1,5 +1,6 @@
 // Rectangles and windows: what a rectangle keeps a mover off, and the tests of a window, an end and a mover.
 use base_model::Bounds;
+use base_model::CELLS;
 use base_model::CENTRES;
 use base_model::Position;
 use base_model::REACH;
@@ -13,7 +14,7 @@ ghost use lib.Signed.{ltZ};
 ghost use lib.ListN.{length};
 ghost use Rattle.base_laws.specs.Ints.{up, dn};
 ghost use Rattle.ground_rects.specs.Rects.{nonempty, holds, intersects, keepsOff, small};
-ghost use Rattle.ground_rects.specs.Windows.{width, height, windowFits, inWindow};
+ghost use Rattle.ground_rects.specs.Windows.{sizeFits, width, height, windowFits, inWindow};
 ghost use Rattle.ground_rects.specs.Spans.{offAxis, Clamped, ClippedAxis, Clipped, nthRect};
 
 // A part of a window: columns left to right and rows top to bottom, right and bottom exclusive.
@@ -208,6 +209,22 @@ pub fn in_window(w: Rect, p: Position) -> bool
         bottom: 0,
     };
     keeps_off(w, point, p.x, p.y)
+}
+
+// Whether a map may have so many cells each way.
+pub fn size_fits(across: u32, down: u32) -> bool
+    ensures { λ r. ⌜ r ≡ sizeFits across down ⌝ }
+{
+    if across < 1 {
+        return false;
+    }
+    if across > CELLS {
+        return false;
+    }
+    if down < 1 {
+        return false;
+    }
+    down <= CELLS
 }
 
 // The columns of a window.

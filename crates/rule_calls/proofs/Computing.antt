@@ -3,7 +3,7 @@ use Prim.Native.Nat.{ℕ}
 use Rattle.base_laws.specs.Lists.{anyOf, allOf, select, flat, firstOf, isSome, span, below, total, member, same, ascends, putIn, without, padded}
 use Rattle.base_model.specs.Answers.{refusal, ask, first, saidOf, replyOf}
 use Rattle.ground_rects.specs.Rects.{rect, nonempty, has, holds, intersects, keepsOff, small, rectsOf}
-use Rattle.ground_rects.specs.Windows.{width, height, centres, windowFits, inWindow, pixelX, pixelY, centreAt, positionOf}
+use Rattle.ground_rects.specs.Windows.{sizeFits, width, height, centres, windowFits, inWindow, pixelX, pixelY, centreAt, positionOf}
 use Rattle.ground_baseline.specs.Baseline.{mapFits, cellRect, offTerrain, offObstacle, offEdge, mark, baselineOf}
 use Rattle.rule_routes.specs.Edges.{stepBy, eightSteps, stepsOf, eqZ, sameStep, eachOnce, tableFits, originalSteps, centre, inside, sidesFrom, edgeBy, edgesFrom, windowEdges}
 use Rattle.rule_routes.specs.Routes.{neighbours, known, onward, discover, anyRoute, sweep, searchFrom, nodesOf, route, reachCount, sidesOf, leansOn}
@@ -65,7 +65,7 @@ unfoldable pub computing : ℕ
 unfolding anyOf allOf select flat firstOf isSome span below total member same ascends putIn without padded
     refusal ask first saidOf replyOf
     rect nonempty has holds intersects keepsOff small rectsOf
-    width height centres windowFits inWindow pixelX pixelY centreAt positionOf
+    sizeFits width height centres windowFits inWindow pixelX pixelY centreAt positionOf
     mapFits cellRect offTerrain offObstacle offEdge mark baselineOf
     stepBy eightSteps stepsOf eqZ sameStep eachOnce tableFits originalSteps centre inside sidesFrom edgeBy edgesFrom windowEdges
     neighbours known onward discover anyRoute sweep searchFrom nodesOf route reachCount sidesOf leansOn

@@ -1,11 +1,11 @@
 -- Boards by two orders of the eight steps have the same ground and the same verdicts, since these ask of a route only whether there is one.
 use Prim.Native.Nat.{ℕ}
-use mathlib.Core.Path.{_≡_, refl, sym, _∙_, ap, fun-ext}
-use mathlib.Core.Bool.{Bool, true, not, true≢false}
+use mathlib.Core.Path.{_≡_, refl, ap, fun-ext}
+use mathlib.Core.Bool.{Bool, true, not}
 use mathlib.Core.Option.{Option, none, some}
 use mathlib.Core.List.{List, [], _∷_}
 use Rattle.base_laws.specs.Lists.{allOf, firstOf, isSome, without}
-use Rattle.base_laws.proofs.Members.{either}
+use Rattle.base_laws.proofs.Members.{same-truth}
 use Rattle.base_laws.proofs.HowMany.{many-same}
 use Rattle.base_model.specs.declared.Verdict.the-variants.{Slots, Overlap, EndCovered, Open, Spare, Shut, Wall}
 use Rattle.ground_rects.specs.Windows.{width, height, inWindow}
@@ -20,13 +20,6 @@ use Rattle.rule_layouts.proofs.Regular.{regular-board}
 use Rattle.rule_layouts.proofs.Explored.{isSome-passes, passes-isSome}
 use Rattle.rule_layouts.proofs.SameWalls.{passes-steps}
 use Rattle.rule_layouts.proofs.Ground.{ground-joined}
-
--- two tests of which each passes where the other does
-same-test : (x y : Bool) → (x ≡ true → y ≡ true) → (y ≡ true → x ≡ true) → x ≡ y
-same-test x y there back =
-    either x
-    (λ t. t ∙ sym (there t))
-    (λ f. either y (λ t. absurd (true≢false (sym (back t) ∙ f))) (λ g. f ∙ sym g))
 
 module _ (i : Inputs) (a b : List Step) (p : eachOnce a ≡ true) (q : eachOnce b ≡ true)
     (ends : (inWindow (i .query .window) (i .query .start) ≡ true) × (inWindow (i .query .window) (i .query .end) ≡ true)) where
@@ -57,7 +50,7 @@ module _ (i : Inputs) (a b : List Step) (p : eachOnce a ≡ true) (q : eachOnce 
   -- there is a route by one exactly when there is one by the other
   pub route-order : (m : Mover) (s : List ℕ) → isSome (routePast one m s) ≡ isSome (routePast other m s)
   route-order m s =
-      same-test (isSome (routePast one m s)) (isSome (routePast other m s))
+      same-truth (isSome (routePast one m s)) (isSome (routePast other m s))
       (λ t. passes-isSome other other-regular m s (passes-steps i a b p q m s (isSome-passes one one-regular m s t)))
       (λ t. passes-isSome one one-regular m s (passes-steps i b a q p m s (isSome-passes other other-regular m s t)))
 

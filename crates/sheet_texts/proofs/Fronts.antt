@@ -9,7 +9,7 @@ use Rattle.base_model.specs.Answers.{Said, refusal, saidOf}
 use Rattle.base_model.specs.declared.Refusal.{Refusal}
 use Rattle.base_model.specs.declared.Refusal.the-variants.{MapInvalid, WindowInvalid, EndOutside, BoundTooLarge, ObstacleInvalid, AreaTooShort, StartBlocked, EndBlocked, NoRoute}
 use Rattle.base_model.specs.declared.Refusal.the-variants.{GroupsInvalid, StateLimitInvalid, ResultLimitInvalid, TooManyPlacements, PlacementInvalid}
-use Rattle.base_model.specs.declared.Refusal.the-variants.{RectangleEmpty, RecordInvalid, SelectionInvalid, StepsInvalid, CountOutOfRange}
+use Rattle.base_model.specs.declared.Refusal.the-variants.{RectangleEmpty, FootprintInvalid, RecordInvalid, SelectionInvalid, StepsInvalid, CountOutOfRange, SiteInvalid}
 use Rattle.text_forms.specs.Forms.{decimal}
 use Rattle.text_forms.specs.Patterns.{bytes}
 use Rattle.text_forms.specs.Writing.{Put}
@@ -46,10 +46,12 @@ said-small ResultLimitInvalid = omega arith
 said-small TooManyPlacements = omega arith
 said-small (PlacementInvalid i) = omega arith
 said-small RectangleEmpty = omega arith
+said-small FootprintInvalid = omega arith
 said-small RecordInvalid = omega arith
 said-small SelectionInvalid = omega arith
 said-small StepsInvalid = omega arith
 said-small CountOutOfRange = omega arith
+said-small SiteInvalid = omega arith
 
 pub refusal-short : (r : Refusal) → length (refusalText (saidOf r)) ≤ 64
 refusal-short r = said-short (saidOf r) (said-small r)

@@ -13,6 +13,13 @@ pub use call_cover::cover;
 // Lifts the rectangle off again: one less at each of these centres.
 pub use call_cover::lift;
 
+// Ranks a placement by the squared distance of its footprint's centre from the entrance, with the remainder. This call and the next take
+// no area.
+pub use call_rank::rank;
+
+// Whether the first of two ranks is closer: an order to sort by.
+pub use call_rank::closer;
+
 // Begins a search: the record is handed back, all zero on refusal.
 pub use walls_begin::begin;
 

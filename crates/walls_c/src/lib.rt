@@ -4,7 +4,9 @@
 use base_model::Bounds;
 use base_model::Limits;
 use base_model::Position;
+use base_model::Rank;
 use base_model::Rect;
+use base_model::Site;
 ghost use mathlib.Core.Path.{_≡_};
 ghost use Rattle.ground_rects.specs.Rects.{rect};
 ghost use Rattle.rule_layouts.specs.Flat.{inputsOf};
@@ -12,6 +14,7 @@ ghost use Rattle.rule_calls.specs.Areas.{workIn, storeIn};
 ghost use Rattle.call_prepare.specs.Prepare.{preparation};
 ghost use Rattle.walls_numbers.specs.Numbers.{queryFrom};
 ghost use Rattle.walls_numbers.specs.Left.{prepareOn, coverOn, liftOn, beginOn, stepOn, readOn, judgeOn};
+ghost use Rattle.walls_numbers.specs.Ranked.{rankOn, closerOn};
 
 // Prepares a mover.
 #[no_mangle]
@@ -587,4 +590,96 @@ pub extern "C" fn hitrovzen_judge(
     *verdict = walls_told::verdict_in(judged);
     *ground = walls_told::ground_in(judged);
     walls_told::answer_in(judged)
+}
+
+// Ranks a placement by the squared distance of its footprint's centre from the entrance: quotient + remainder / divisor. The three are 0
+// where there is no rank.
+#[no_mangle]
+pub extern "C" fn hitrovzen_rank(
+    across: u32,
+    down: u32,
+    first_x: u32,
+    first_y: u32,
+    second_x: u32,
+    second_y: u32,
+    radius: u32,
+    footprint_left: i32,
+    footprint_top: i32,
+    footprint_right: i32,
+    footprint_bottom: i32,
+    quotient: &mut u64,
+    remainder: &mut u64,
+    divisor: &mut u64,
+) -> u32
+    ensures { λ r. ⌜
+        rankOn across down
+        (record {
+          first = record { x = «first_x»; y = «first_y» };
+          second = record { x = «second_x»; y = «second_y» };
+          radius = radius;
+        })
+        (rect «footprint_left» «footprint_top» «footprint_right» «footprint_bottom»)
+        ≡ record {
+          answer = r;
+          rank = record { quotient = now (quotient .exit); remainder = now (remainder .exit); divisor = now (divisor .exit) };
+        }
+        ⌝ }
+{
+    let first = Position {
+        x: first_x,
+        y: first_y,
+    };
+    let second = Position {
+        x: second_x,
+        y: second_y,
+    };
+    let site = Site {
+        first: first,
+        second: second,
+        radius: radius,
+    };
+    let footprint = Rect {
+        left: footprint_left,
+        top: footprint_top,
+        right: footprint_right,
+        bottom: footprint_bottom,
+    };
+    let ranked = call_rank::rank(across, down, site, footprint);
+    let rank = walls_told::rank_in(ranked);
+    *quotient = rank.quotient;
+    *remainder = rank.remainder;
+    *divisor = rank.divisor;
+    walls_told::rank_answer_in(ranked)
+}
+
+// Whether the first rank is closer than the other: 1 if it is, else 0.
+#[no_mangle]
+pub extern "C" fn hitrovzen_closer(
+    quotient: u64,
+    remainder: u64,
+    divisor: u64,
+    other_quotient: u64,
+    other_remainder: u64,
+    other_divisor: u64,
+) -> u32
+    ensures { λ r. ⌜
+        r ≡ closerOn
+        (record { quotient = quotient; remainder = remainder; divisor = divisor })
+        (record { quotient = «other_quotient»; remainder = «other_remainder»; divisor = «other_divisor» })
+        ⌝ }
+{
+    let rank = Rank {
+        quotient: quotient,
+        remainder: remainder,
+        divisor: divisor,
+    };
+    let other = Rank {
+        quotient: other_quotient,
+        remainder: other_remainder,
+        divisor: other_divisor,
+    };
+    if call_rank::closer(rank, other) {
+        return 1;
+    }
+    0
 }

@@ -4,3 +4,4 @@ pub mod Lent
 pub mod Left
 pub mod Accepted
 pub mod Rows
+pub mod Ranks

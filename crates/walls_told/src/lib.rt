@@ -1,5 +1,7 @@
 // What the calls answer as numbers.
 use base_model::Judged;
+use base_model::Rank;
+use base_model::Ranked;
 use base_model::Record;
 use base_model::Reply;
 use base_model::index;
@@ -14,6 +16,8 @@ ghost use Rattle.rule_calls.specs.Calls.{judgementOf};
 ghost use Rattle.call_read.specs.Told.{numberIn, indexIn};
 ghost use Rattle.walls_numbers.specs.Numbers.{judgedAnswer, judgedIndex, judgedVerdict, judgedGround};
 ghost use Rattle.walls_numbers.specs.Lent.{numbersLeft};
+ghost use Rattle.rule_ranks.specs.Ranks.{rankingOf};
+ghost use Rattle.walls_numbers.specs.Ranked.{rankedAnswer, rankedNumbers};
 
 // Tells what a call answers as numbers: the record is laid where it is accepted, the index is the one given with a refusal, the result
 // is the answer's number.
@@ -78,5 +82,34 @@ pub fn ground_in(judged: Judged) -> u32
     match judged {
         Judged::Verdict(_, n) => n,
         Judged::Refused(_) => 0,
+    }
+}
+
+// The number that ranking answers with.
+pub fn rank_answer_in(ranked: Ranked) -> u32
+    ensures { λ r. ⌜ r ≡ rankedAnswer (rankingOf ranked) ⌝ }
+{
+    match ranked {
+        Ranked::Rank(_) => 0,
+        Ranked::Beyond => 0,
+        Ranked::Refused(refusal) => refusal_number(refusal),
+    }
+}
+
+// Three numbers that are no rank.
+const NO_RANK: Rank = Rank {
+    quotient: 0,
+    remainder: 0,
+    divisor: 0,
+};
+
+// The rank, or three zeros.
+pub fn rank_in(ranked: Ranked) -> Rank
+    ensures { λ r. ⌜ r ≡ rankedNumbers (rankingOf ranked) ⌝ }
+{
+    match ranked {
+        Ranked::Rank(k) => k,
+        Ranked::Beyond => NO_RANK,
+        Ranked::Refused(_) => NO_RANK,
     }
 }

@@ -8,8 +8,9 @@ use std::collections::HashSet;
 use super::super::{intersects, local_index, route};
 use super::{
     Candidate, CollisionBounds, PreparedMover, SearchError, SearchFrame, SearchMover,
-    SearchPlacement, State, WallBuilding, WallEndpoint, WallError, WallLayout, WallSearch,
-    WallSearchQuery, WallSearchReason, WallSearchResult, candidate_touches_witness, prepare_mover,
+    SearchPlacement, State, WallBuilding, WallEndpoint, WallError, WallLayout, WallPlacementSite,
+    WallSearch, WallSearchQuery, WallSearchReason, WallSearchResult, candidate_touches_witness,
+    footprint_center_distance_rank, prepare_mover, validate_placement_site,
 };
 use crate::case::{Bounds, Case, Layout, List, Mover, Placement, Reason, Rect, Snapshot};
 use crate::{DepotFootprint, PixelPosition, PixelRect, TerrainCell, TerrainGrid, TilePosition};
@@ -420,4 +421,22 @@ pub fn overlap(search: &WallSearch, a: u32, b: u32) -> bool {
         search.candidates[a as usize].footprint,
         search.candidates[b as usize].footprint,
     )
+}
+
+fn site(entrance: [(u32, u32); 2], radius: u32) -> WallPlacementSite {
+    WallPlacementSite {
+        entrance: entrance.map(position),
+        max_distance_pixels: radius,
+    }
+}
+
+/// `validate_placement_site`: whether an entrance and a radius are taken on a map of so many pixels.
+pub fn site_fits(entrance: [(u32, u32); 2], radius: u32, (width, height): (i64, i64)) -> bool {
+    validate_placement_site(site(entrance, radius), width, height).is_ok()
+}
+
+/// `footprint_center_distance_rank`: the whole part of the squared distance in pixels from the entrance
+/// to the footprint's centre, none beyond the radius.
+pub fn distance_rank(footprint: Rect, entrance: [(u32, u32); 2], radius: u32) -> Option<u128> {
+    footprint_center_distance_rank(rect(footprint), site(entrance, radius))
 }

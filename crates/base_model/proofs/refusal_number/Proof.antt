@@ -63,6 +63,12 @@ enum-told-18 c = search needs
 enum-told-19 : tie.Need-enum-told-19
 enum-told-19 c = search needs
 
+enum-told-20 : tie.Need-enum-told-20
+enum-told-20 c = search needs
+
+enum-told-21 : tie.Need-enum-told-21
+enum-told-21 c = search needs
+
 returns : tie.Need-returns
 unfolding saidOf refusal
 returns c = sym (ap (λ (x : Refusal). saidOf x .number) (c .enum-told .given .1))
@@ -139,6 +145,14 @@ returns-19 : tie.Need-returns-19
 unfolding saidOf refusal
 returns-19 c = sym (ap (λ (x : Refusal). saidOf x .number) (c .enum-told19 .given .1))
 
+returns-20 : tie.Need-returns-20
+unfolding saidOf refusal
+returns-20 c = sym (ap (λ (x : Refusal). saidOf x .number) (c .enum-told20 .given .1))
+
+returns-21 : tie.Need-returns-21
+unfolding saidOf refusal
+returns-21 c = sym (ap (λ (x : Refusal). saidOf x .number) (c .enum-told21 .given .1))
+
 pub refusal-number-spec : {M : Type 1} → statement M
 refusal-number-spec =
     tie.close
@@ -162,6 +176,8 @@ refusal-number-spec =
     enum-told-17
     enum-told-18
     enum-told-19
+    enum-told-20
+    enum-told-21
     returns
     returns-2
     returns-3
@@ -180,4 +196,6 @@ refusal-number-spec =
     returns-16
     returns-17
     returns-18
-    returns-19)
+    returns-19
+    returns-20
+    returns-21)

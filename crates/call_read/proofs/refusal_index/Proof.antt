@@ -23,16 +23,18 @@ use Rattle.base_model.specs.declared.Refusal.the-variants.{
   TooManyPlacements,
   PlacementInvalid,
   RectangleEmpty,
+  FootprintInvalid,
   RecordInvalid,
   SelectionInvalid,
   StepsInvalid,
   CountOutOfRange,
+  SiteInvalid,
 }
 use Rattle.base_model.proofs.Refusal.{the-type}
 use Rattle.call_read.proofs.refusal_index.Statement.{statement}
 use Rattle.call_read.proofs.refusal_index.Tie as tie
 
-no-index : (r : Refusal) → OneOf (0 ∷ 1 ∷ 2 ∷ 3 ∷ 4 ∷ 5 ∷ 6 ∷ 7 ∷ 8 ∷ 9 ∷ 10 ∷ 11 ∷ 12 ∷ 14 ∷ 15 ∷ 16 ∷ 17 ∷ 18 ∷ []) (tagOf the-type r) → 0 ≡ getD (saidOf r .values) 0 0
+no-index : (r : Refusal) → OneOf (0 ∷ 1 ∷ 2 ∷ 3 ∷ 4 ∷ 5 ∷ 6 ∷ 7 ∷ 8 ∷ 9 ∷ 10 ∷ 11 ∷ 12 ∷ 14 ∷ 15 ∷ 16 ∷ 17 ∷ 18 ∷ 19 ∷ 20 ∷ []) (tagOf the-type r) → 0 ≡ getD (saidOf r .values) 0 0
 unfolding saidOf refusal
 no-index MapInvalid h = refl
 no-index WindowInvalid h = refl
@@ -47,12 +49,14 @@ no-index GroupsInvalid h = refl
 no-index StateLimitInvalid h = refl
 no-index ResultLimitInvalid h = refl
 no-index TooManyPlacements h = refl
-no-index (PlacementInvalid i) h = absurd (miss (0 ∷ 1 ∷ 2 ∷ 3 ∷ 4 ∷ 5 ∷ 6 ∷ 7 ∷ 8 ∷ 9 ∷ 10 ∷ 11 ∷ 12 ∷ 14 ∷ 15 ∷ 16 ∷ 17 ∷ 18 ∷ []) 13 tt h)
+no-index (PlacementInvalid i) h = absurd (miss (0 ∷ 1 ∷ 2 ∷ 3 ∷ 4 ∷ 5 ∷ 6 ∷ 7 ∷ 8 ∷ 9 ∷ 10 ∷ 11 ∷ 12 ∷ 14 ∷ 15 ∷ 16 ∷ 17 ∷ 18 ∷ 19 ∷ 20 ∷ []) 13 tt h)
 no-index RectangleEmpty h = refl
+no-index FootprintInvalid h = refl
 no-index RecordInvalid h = refl
 no-index SelectionInvalid h = refl
 no-index StepsInvalid h = refl
 no-index CountOutOfRange h = refl
+no-index SiteInvalid h = refl
 
 enum-known-refusal : tie.Need-enum-known-refusal
 enum-known-refusal c = search needs

@@ -1,0 +1,13 @@
+pub mod Passed
+pub mod Ends
+pub mod Sizes
+pub mod Given
+pub mod Division
+pub mod Fractions
+pub mod Order
+pub mod Original
+pub mod Vectors
+pub mod Ways
+pub mod Nearest
+pub mod Turned
+pub mod Rows
