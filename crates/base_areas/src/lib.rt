@@ -1,4 +1,6 @@
 // Clearing, filling and copying lent areas.
+#![tactic(auto)]
+
 ghost use Rattle.std.specs.Prelude.{◌≡◌, ◌++◌, ◌+◌, ◌≤◌, pos, length, take, drop, replicate};
 ghost use Rattle.base_laws.specs.Fill.{zeros, over};
 

@@ -1,10 +1,12 @@
 // The values that the calls take and give, their bounds, and what they share of code.
+#![tactic(auto)]
+
 ghost use Rattle.std.specs.Prelude.{◌≡◌, false};
 ghost use Rattle.base_model.specs.Answers.{said_of, verdict_number};
 ghost use Rattle.base_model.specs.Records.{fresh_record};
 
 // Half open: right and bottom are exclusive.
-#[derive(Drop)]
+#[derive(Clone, Copy)]
 pub struct Rect {
     pub left: i32,
     pub top: i32,
@@ -13,7 +15,7 @@ pub struct Rect {
 }
 
 // How far a mover reaches from its centre.
-#[derive(Drop)]
+#[derive(Clone, Copy)]
 pub struct Bounds {
     pub left: u32,
     pub top: u32,
@@ -22,21 +24,21 @@ pub struct Bounds {
 }
 
 // A pixel of the map.
-#[derive(Drop)]
+#[derive(Clone, Copy)]
 pub struct Position {
     pub x: u32,
     pub y: u32,
 }
 
 // A tile of the map.
-#[derive(Drop)]
+#[derive(Clone, Copy)]
 pub struct Tile {
     pub x: u32,
     pub y: u32,
 }
 
 // A building that may be placed. Spec index and tile are carried along.
-#[derive(Drop)]
+#[derive(Clone, Copy)]
 pub struct Placement {
     pub spec: u32,
     pub group: u32,
@@ -102,14 +104,14 @@ pub const STATE_LIMIT: u32 = 3;
 pub const RESULT_LIMIT: u32 = 4;
 
 // The mover that a wall must let pass, if there is one.
-#[derive(Drop)]
+#[derive(Clone, Copy)]
 pub enum Allow {
     Nobody,
     Bounded(Bounds),
 }
 
 // What a search or a judgement is about: the window, the ends, the mover that a wall blocks and the one that it lets pass.
-#[derive(Drop)]
+#[derive(Clone, Copy)]
 pub struct Query {
     pub window: Rect,
     pub start: Position,
@@ -119,14 +121,14 @@ pub struct Query {
 }
 
 // How many sets a search may evaluate, and how many layouts it may list.
-#[derive(Drop)]
+#[derive(Clone, Copy)]
 pub struct Limits {
     pub states: u32,
     pub results: u32,
 }
 
 // The search record. Its reason is a number, one of the four above; any other names none.
-#[derive(Drop)]
+#[derive(Clone, Copy)]
 pub struct Record {
     pub reason: u32,
     pub evaluations: u32,
@@ -142,7 +144,7 @@ pub struct Record {
 }
 
 // What a call turns away.
-#[derive(Drop)]
+#[derive(Clone, Copy)]
 pub enum Refusal {
     MapInvalid,
     WindowInvalid,
@@ -169,21 +171,21 @@ pub enum Refusal {
 }
 
 // The answer of a call that leaves its result in the areas.
-#[derive(Drop)]
+#[derive(Clone, Copy)]
 pub enum Answer {
     Done,
     Refused(Refusal),
 }
 
 // What a call that works on a search gives back: its answer, and the search record.
-#[derive(Drop)]
+#[derive(Clone, Copy)]
 pub struct Reply {
     pub answer: Answer,
     pub rec: Record,
 }
 
 // What a selection of placements comes to.
-#[derive(Drop)]
+#[derive(Clone, Copy)]
 pub enum Verdict {
     Slots,
     Overlap,
@@ -195,7 +197,7 @@ pub enum Verdict {
 }
 
 // The answer of judging: a verdict with the ground left.
-#[derive(Drop)]
+#[derive(Clone, Copy)]
 pub enum Judged {
     Verdict(Verdict, u32),
     Refused(Refusal),
@@ -203,7 +205,7 @@ pub enum Judged {
 
 // Where placements are wanted: around the entrance, the line from the first point to the second, no farther from it than the radius in
 // pixels.
-#[derive(Drop)]
+#[derive(Clone, Copy)]
 pub struct Site {
     pub first: Position,
     pub second: Position,
@@ -211,7 +213,7 @@ pub struct Site {
 }
 
 // A placement's squared distance from the entrance in pixels: quotient + remainder / divisor.
-#[derive(Drop)]
+#[derive(Clone, Copy)]
 pub struct Rank {
     pub quotient: u64,
     pub remainder: u64,
@@ -219,7 +221,7 @@ pub struct Rank {
 }
 
 // The answer of ranking: a placement beyond the radius has no rank.
-#[derive(Drop)]
+#[derive(Clone, Copy)]
 pub enum Ranked {
     Rank(Rank),
     Beyond,
@@ -241,6 +243,7 @@ pub fn member(n: u16) -> usize
 }
 
 // The number of a refusal. 13 is out of use.
+#[tactic(auto, unfolding(crate::specs::Answers::said_of, crate::specs::Answers::refusal))]
 pub fn refusal_number(refusal: Refusal) -> u32
     ensures { result ≡ (said_of refusal).number }
 {
@@ -270,6 +273,7 @@ pub fn refusal_number(refusal: Refusal) -> u32
 }
 
 // The number of a verdict.
+#[tactic(auto, unfolding(crate::specs::Answers::verdict_number))]
 pub fn verdict_number(verdict: Verdict) -> u32
     ensures { result ≡ verdict_number verdict }
 {

@@ -8,7 +8,7 @@ ghost use Rattle.call_lengths.specs.Lengths.{WorkHas, StoreHas, points_room};
 use base_model::{Allow, Limits, POINTS, Query, ROW, Rect, SLOTS, index};
 
 // How many entries the working areas have.
-#[derive(Drop)]
+#[derive(Clone, Copy)]
 pub struct WorkLengths {
     pub counts: usize,
     pub map: usize,
@@ -18,7 +18,7 @@ pub struct WorkLengths {
 }
 
 // How many entries the areas that hold a search have.
-#[derive(Drop)]
+#[derive(Clone, Copy)]
 pub struct StoreLengths {
     pub lists: usize,
     pub visited: usize,

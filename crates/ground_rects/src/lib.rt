@@ -1,4 +1,6 @@
 // Rectangles and windows: what a rectangle keeps a mover off, and the tests of a window, an end and a mover.
+#![tactic(auto)]
+
 ghost use Rattle.std.specs.Prelude.{◌≡◌, true, ◌+◌, ◌*◌, ◌<◌, ◌≤◌, pos, length};
 ghost use Rattle.std.specs.Int.Signed.{lt_z};
 ghost use Rattle.base_laws.specs.Ints.{up, dn};
@@ -9,7 +11,7 @@ ghost use Rattle.ground_rects.specs.Spans.{off_axis, Clamped, ClippedAxis, Clipp
 use base_model::{Bounds, CELLS, CENTRES, Position, REACH, Rect, SIDES};
 
 // A part of a window: columns left to right and rows top to bottom, right and bottom exclusive.
-#[derive(Drop)]
+#[derive(Clone, Copy)]
 pub struct Span {
     pub left: usize,
     pub top: usize,
@@ -123,7 +125,7 @@ fn clamped(edge: u64, from: u64, to: u64) -> usize
 const MARGIN: u64 = REACH as u64;
 
 // One axis of a span.
-#[derive(Drop)]
+#[derive(Clone, Copy)]
 struct Axis {
     from: usize,
     to: usize,

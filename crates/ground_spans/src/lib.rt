@@ -7,7 +7,7 @@ ghost use Rattle.ground_spans.specs.Changes.{made, allows, SpanFits, SpanAllows,
 use ground_rects::Span;
 
 // What is done to a byte: it becomes 1, one more or one less.
-#[derive(Drop)]
+#[derive(Clone, Copy)]
 pub enum Change {
     Mark,
     Raise,

@@ -4,7 +4,7 @@ ghost use Rattle.input_arrival.specs.Arrivals.{takes};
 ghost use Rattle.input_arrival.specs.declared.Arrival.TheVariants.{Going};
 
 // More may come after so many bytes; all of the input stands there, so many bytes; or it can't be had whole.
-#[derive(Drop)]
+#[derive(Clone, Copy)]
 pub enum Arrival {
     Going(usize),
     Whole(usize),

@@ -43,20 +43,20 @@ const NO_RANK: Rank = Rank {
     divisor: 0,
 };
 
-#[derive(Drop)]
+#[derive(Clone, Copy)]
 enum Place {
     Beside,
     Between,
     Beyond,
 }
 
-#[derive(Drop)]
+#[derive(Clone, Copy)]
 struct Post {
     place: Place,
     rank: Rank,
 }
 
-#[derive(Drop)]
+#[derive(Clone, Copy)]
 struct Pair {
     near: Post,
     far: Post,

@@ -48,7 +48,7 @@ const GIVEN_AT: usize = 30;
 pub const RUNS: usize = 31;
 
 // What a search is given beside slices: its number, the map's size, whether baselines are handed in, and the sizes that digests go by.
-#[derive(Drop)]
+#[derive(Clone, Copy)]
 pub struct Head {
     pub number: u32,
     pub across: u32,
@@ -157,7 +157,7 @@ fn given_too(unsigned: &[u32]) -> usize
 }
 
 // The place after each run of a line.
-#[derive(Drop)]
+#[derive(Clone, Copy)]
 pub struct Ends {
     pub cells: usize,
     pub obstacles: usize,

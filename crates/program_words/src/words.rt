@@ -5,7 +5,7 @@ ghost use Rattle.std.specs.Prelude.{◌≤◌};
 pub const MOST_NUMBERS: usize = 4096;
 
 // How far a line was read: how many numbers stand on it, the place after it, and whether it holds anything but numbers.
-#[derive(Drop)]
+#[derive(Clone, Copy)]
 pub struct Span {
     pub count: usize,
     pub next: usize,
@@ -13,7 +13,7 @@ pub struct Span {
 }
 
 // A number as it is read: its digits so far, and whether a minus sign stands before them.
-#[derive(Drop)]
+#[derive(Clone, Copy)]
 struct Word {
     value: u32,
     minus: bool,

@@ -25,7 +25,7 @@ pub fn local_index(x: u32, y: u32, left: i32, top: i32, width: usize) -> usize
 }
 
 // How a search ended: whether it hit its end, and the number of centres that it reached.
-#[derive(Drop)]
+#[derive(Clone, Copy)]
 pub struct Reached {
     pub hit: bool,
     pub tail: usize,

@@ -19,7 +19,7 @@ use search_rows::{among, bounded, kept_points, put_row, route_positions, set_on}
 const LAST: usize = SLOTS - 1;
 
 // What a frame leaves, and whether another may follow before an evaluation.
-#[derive(Drop)]
+#[derive(Clone, Copy)]
 struct Moved {
     rec: Record,
     goes: bool,

@@ -18,7 +18,7 @@ use set_pass::Passage;
 
 // What the evaluation of a set comes to: nothing follows, so many extensions in the list, or a wall with so many points of the allowed
 // route in the route.
-#[derive(Drop)]
+#[derive(Clone, Copy)]
 pub enum Explored {
     Nothing,
     Extend(usize),

@@ -12,7 +12,7 @@ use ground_rects::Span;
 use set_places::{collision_at, count_in_group, footprint_at, group_at};
 
 // Where a centre stands: its column, its row, and the centre that its row starts with.
-#[derive(Drop)]
+#[derive(Clone, Copy)]
 struct Spot {
     x: usize,
     y: usize,

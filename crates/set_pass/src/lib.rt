@@ -12,7 +12,7 @@ ghost use Rattle.set_pass.specs.Allowed.{Allowed};
 use base_model::{Allow, Bounds, Rect};
 
 // Whether the allowed mover passes, and the number of points of its route.
-#[derive(Drop)]
+#[derive(Clone, Copy)]
 pub enum Passage {
     Shut,
     Free(usize),

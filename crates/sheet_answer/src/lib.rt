@@ -8,7 +8,7 @@ use sheet_form::{
 use sheet_read::Found;
 
 // The answer of `answer`: so many bytes were written, or the area may be too short for an answer.
-#[derive(Drop)]
+#[derive(Clone, Copy)]
 pub enum Answered {
     Written(usize),
     Short,

@@ -7,14 +7,14 @@ ghost use Rattle.sheet_lines.specs.Answers.{LineRoom, LineAt, RowsAt, CellsAt, M
 use sheet_form::{ALLOW, BLOCK, FIXED, LIMITS, SIZE, START, WINDOW};
 
 // The place after a part that stands there.
-#[derive(Drop)]
+#[derive(Clone, Copy)]
 pub enum Place {
     At(usize),
     Not,
 }
 
 // The same with how many lines, numbers or digits were read.
-#[derive(Drop)]
+#[derive(Clone, Copy)]
 pub enum Part {
     Read { count: usize, next: usize },
     Not,

@@ -4,7 +4,7 @@ ghost use Rattle.sheet_read.specs.Answers.{SheetLent, SheetRead};
 use sheet_lines::{Part, Place};
 
 // How many of each kind a sheet has; `allow` is 0 or 1.
-#[derive(Drop)]
+#[derive(Clone, Copy)]
 pub struct Counts {
     pub cells: usize,
     pub obstacles: usize,
@@ -14,7 +14,7 @@ pub struct Counts {
 }
 
 // The answer of `read_sheet`: the sheet's numbers stand in the areas, or the text is none, or one with more than the areas hold.
-#[derive(Drop)]
+#[derive(Clone, Copy)]
 pub enum Found {
     Sheet(Counts),
     Not,

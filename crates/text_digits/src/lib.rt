@@ -4,7 +4,7 @@ ghost use Rattle.text_digits.specs.Answers.{DigitsRead};
 ghost use Rattle.text_digits.specs.Inner.{DigitRun, cells};
 
 // The answer of `digits`.
-#[derive(Drop)]
+#[derive(Clone, Copy)]
 pub enum Row {
     Read { count: usize, next: usize },
     Wrong(usize),

@@ -5,7 +5,7 @@ ghost use Rattle.text_forms.specs.Patterns.{good, fields, repeats};
 ghost use Rattle.text_lines.specs.Answers.{PassRead, Stored};
 
 // The place after a line that stands there, or the place at fault.
-#[derive(Drop)]
+#[derive(Clone, Copy)]
 pub enum Pass {
     To(usize),
     Wrong(usize),

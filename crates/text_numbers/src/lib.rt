@@ -14,21 +14,21 @@ const MOST_SIGNED: u32 = 2147483647;
 const LEAST: u32 = MOST_SIGNED + 1;
 
 // The answer of `number`: its value and the place after it, the place at fault, or that the place given is beyond the text.
-#[derive(Drop)]
+#[derive(Clone, Copy)]
 pub enum Num {
     Read(u32, usize),
     Wrong(usize),
     Beyond,
 }
 
-#[derive(Drop)]
+#[derive(Clone, Copy)]
 struct Taken {
     value: u32,
     next: usize,
 }
 
 // The answer at a place inside the text.
-#[derive(Drop)]
+#[derive(Clone, Copy)]
 pub enum Step {
     Read(u32, usize),
     Wrong(usize),

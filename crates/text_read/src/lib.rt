@@ -8,7 +8,7 @@ use text_lines::Pass;
 
 // The answer of `line`: the place after it, the place at fault, or why nothing was looked at (the place is beyond the text, the pattern
 // cannot be read, the area is too short).
-#[derive(Drop)]
+#[derive(Clone, Copy)]
 pub enum Next {
     Read(usize),
     Wrong(usize),
@@ -19,7 +19,7 @@ pub enum Next {
 
 // The answer of `rows` and `optional`: how many lines and numbers were read, the place after them and where the next line is at fault; or
 // that there is one more line than the area holds.
-#[derive(Drop)]
+#[derive(Clone, Copy)]
 pub enum Several {
     Read {
         count: usize,

@@ -7,7 +7,7 @@ ghost use Rattle.text_write.specs.Inner.{Decides};
 
 // The answer of `put_line`: the place after the line; or, with nothing written, that it has no room or that the values are not those of
 // such a line.
-#[derive(Drop)]
+#[derive(Clone, Copy)]
 pub enum Written {
     At(usize),
     NoRoom,

@@ -8,7 +8,7 @@ use base_model::{EDGES, NUMBERS, Placement, Rect};
 // How many placements are laid at most: one more than a call takes, so that a call sees where there are too many.
 pub const MOST_LAID: usize = 6145;
 
-#[derive(Drop)]
+#[derive(Clone, Copy)]
 pub struct Rows {
     pub numbers: [u32; NUMBERS * MOST_LAID],
     pub edges: [i32; EDGES * MOST_LAID],

@@ -1,0 +1,6 @@
+-- `base_model::no_record` meets its contract: it is the fresh record of these values.
+use borrow.Author.Rules.{rules}
+use Rattle.base_model.proofs.no_record.Goals as goal
+
+pub returns : goal.returns
+returns c = c.fresh_record.ensures
