@@ -1,4 +1,6 @@
 // The difference grid: counts over a lent area, to which spans are added by their corners.
+#![tactic(auto)]
+
 ghost use Rattle.std.specs.Prelude.{◌≡◌, ◌<◌, ◌≤◌, pos, length, get_or};
 ghost use Rattle.std.specs.Int.Signed.{mag};
 ghost use Rattle.base_laws.specs.Ints.{up, dn};

@@ -58,6 +58,7 @@ module _ {A : Type 0} where
 
   -- ---- in a list without repeats
   pub precedes_apart : {a b : A} {l : List A} → Distinct l → Precedes a b l → a ≡ b → ⊥
+  precedes_apart {a = a} {b = b} Distinct.empty p e = elim p [ ]
   precedes_apart (Distinct.fresh n d) (Precedes·here m) e = n (Memᴰ.cast e m)
   precedes_apart (Distinct.fresh n d) (Precedes·later p) e = precedes_apart d p e
 
