@@ -1,4 +1,6 @@
 // What terrain and obstacles block: the counts of a window laid with rectangles, and a mover's baseline read off them.
+#![tactic(auto)]
+
 ghost use Rattle.std.specs.Prelude.{◌≡◌, true, ◌&&◌, ◌||◌, List, [], ◌∷◌, ◌++◌, ℕ, ◌+◌, ◌*◌, ◌<◌, ◌≤◌, leb, ℤ, pos, length, drop, replicate};
 ghost use Rattle.std.specs.Int.Signed.{le_z, lt_z};
 ghost use Rattle.base_laws.specs.Lists.{all_of};

@@ -1,4 +1,6 @@
 // A span of a map changed row by row: its bytes become 1, one more or one less.
+#![tactic(auto)]
+
 ghost use Rattle.std.specs.Prelude.{◌≡◌, true, map as mapped};
 ghost use Rattle.base_laws.specs.Lists.{all_of};
 ghost use Rattle.ground_spans.specs.declared.Change.TheVariants.{Raise, Lower};

@@ -1,4 +1,6 @@
 // Placements lent flat, read by index.
+#![tactic(auto)]
+
 ghost use Rattle.std.specs.Prelude.{◌≡◌, ◌+◌, ◌*◌, ◌≤◌, length, get_or};
 ghost use Rattle.rule_layouts.specs.Flat.{rect_at};
 ghost use Rattle.set_places.specs.Groups.{of_group, InRow};

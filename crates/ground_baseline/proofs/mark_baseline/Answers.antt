@@ -1,0 +1,91 @@
+-- `ground_baseline::mark_baseline` meets its contract: each stage has what it asks, and the bytes read off the counts are the rule's marks.
+use borrow.Author.Rules.{rules}
+use mathlib.Core.Path.{◌∙◌}
+use native.Mathlib.Omega.{arith}
+use lib.ListN.{length}
+use Rattle.ground_rects.proofs.Windows.{framed}
+use Rattle.ground_baseline.proofs.Stages.{room, asks_terrain, asks_obstacles, asks_finish, asks_centres, cleared, marked}
+use Rattle.ground_baseline.proofs.mark_baseline.Goals as goal
+
+pub width-stride-requires : goal.width-stride-requires
+width-stride-requires c =
+    let a = c.args in
+    (framed _ _ a.window c.requires.window).filled
+
+pub height-requires : goal.height-requires
+height-requires c =
+    let a = c.args in
+    (framed _ _ a.window c.requires.window).filled
+
+pub overflow_mul-n : goal.overflow_mul-n
+overflow_mul-n c =
+    let a = c.args in
+    omega (
+      arith,
+      c.well_formed.1.1.0.0,
+      room (record { across = a.across; down = a.down; cells = a.cells.now }) a.obstacles.now a.window a.mover
+          a.counts.now (length a.baseline.now) c.width-stride.result c.height.result c.requires
+          c.width-stride.ensures.0 c.height.ensures.0,
+    )
+
+pub clear_i32-requires : goal.clear_i32-requires
+clear_i32-requires c =
+    let a = c.args in
+    room (record { across = a.across; down = a.down; cells = a.cells.now }) a.obstacles.now a.window a.mover a.counts.now
+    (length a.baseline.now) c.width-stride.result c.height.result c.requires c.width-stride.ensures.0
+    c.height.ensures.0
+
+pub stamp_terrain_blockers-requires : goal.stamp_terrain_blockers-requires
+stamp_terrain_blockers-requires c =
+    let a = c.args in
+    asks_terrain (record { across = a.across; down = a.down; cells = a.cells.now }) a.obstacles.now a.window a.mover
+    a.counts.now (length a.baseline.now) c.width-stride.result c.height.result c.requires c.width-stride.ensures.0
+    c.height.ensures.0 c.clear_i32.new.s c.clear_i32.ensures
+
+pub stamp_obstacles-requires : goal.stamp_obstacles-requires
+stamp_obstacles-requires c =
+    let a = c.args in
+    asks_obstacles (record { across = a.across; down = a.down; cells = a.cells.now }) a.obstacles.now a.window a.mover
+    a.counts.now (length a.baseline.now) c.width-stride.result c.height.result c.requires c.width-stride.ensures.0
+    c.height.ensures.0 c.clear_i32.new.s c.clear_i32.ensures c.stamp_terrain_blockers.new.counts
+    c.stamp_terrain_blockers.ensures
+
+pub finish-requires : goal.finish-requires
+finish-requires c =
+    let a = c.args in
+    asks_finish (record { across = a.across; down = a.down; cells = a.cells.now }) a.obstacles.now a.window a.mover
+    a.counts.now (length a.baseline.now) c.width-stride.result c.height.result c.requires c.width-stride.ensures.0
+    c.height.ensures.0 c.clear_i32.new.s c.clear_i32.ensures c.stamp_terrain_blockers.new.counts
+    c.stamp_terrain_blockers.ensures c.stamp_obstacles.new.counts c.stamp_obstacles.ensures
+
+pub blocked_centers-requires : goal.blocked_centers-requires
+blocked_centers-requires c =
+    let a = c.args in
+    asks_centres (record { across = a.across; down = a.down; cells = a.cells.now }) a.obstacles.now a.window a.mover
+    a.counts.now (length a.baseline.now) c.width-stride.result c.height.result c.requires c.width-stride.ensures.0
+    c.height.ensures.0 c.clear_i32.new.s c.clear_i32.ensures c.stamp_terrain_blockers.new.counts
+    c.stamp_terrain_blockers.ensures c.stamp_obstacles.new.counts c.stamp_obstacles.ensures c.finish.new.counts c.finish.ensures
+    (c.finish.ensures.size ∙ c.stamp_obstacles.auto.counts ∙ c.stamp_terrain_blockers.auto.counts ∙ c.clear_i32.auto.s)
+
+pub clear_i32-requires-2 : goal.clear_i32-requires-2
+clear_i32-requires-2 c =
+    let a = c.args in
+    omega (
+      arith,
+      room (record { across = a.across; down = a.down; cells = a.cells.now }) a.obstacles.now a.window a.mover
+          a.counts.now (length a.baseline.now) c.width-stride.result c.height.result c.requires c.width-stride.ensures.0
+          c.height.ensures.0,
+      (c.finish.ensures.size ∙ c.stamp_obstacles.auto.counts ∙ c.stamp_terrain_blockers.auto.counts ∙ c.clear_i32.auto.s),
+    )
+
+pub returns : goal.returns
+returns c =
+    let a = c.args in record { baseline_after = marked (record { across = a.across; down = a.down; cells = a.cells.now }) a.obstacles.now a.window a.mover
+          a.counts.now (length a.baseline.now) c.width-stride.result c.height.result c.requires c.width-stride.ensures.0
+          c.height.ensures.0 c.clear_i32.new.s c.clear_i32.ensures c.stamp_terrain_blockers.new.counts
+          c.stamp_terrain_blockers.ensures c.stamp_obstacles.new.counts c.stamp_obstacles.ensures c.finish.new.counts c.finish.ensures
+          a.baseline.now c.blocked_centers.new.baseline c.blocked_centers.ensures;  counts_after = cleared (record { across = a.across; down = a.down; cells = a.cells.now }) a.obstacles.now a.window a.mover
+          a.counts.now (length a.baseline.now) c.width-stride.result c.height.result c.requires c.width-stride.ensures.0
+          c.height.ensures.0 c.clear_i32.new.s c.clear_i32.ensures c.stamp_terrain_blockers.new.counts
+          c.stamp_terrain_blockers.ensures c.stamp_obstacles.new.counts c.stamp_obstacles.ensures c.finish.new.counts c.finish.ensures
+          c.clear_i32-2.new.s c.clear_i32-2.ensures }

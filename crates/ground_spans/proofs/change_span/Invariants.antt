@@ -1,0 +1,16 @@
+-- `ground_spans::change_span` meets its contract: the rows passed have changed. The measure is the number of rows left.
+use borrow.Author.Rules.{rules}
+use mathlib.Core.Path.{◌≡◌, refl}
+use mathlib.Core.Logic.{◌⊎◌, inl, inr}
+use Prim.Native.Nat.{◌+◌, ◌-◌, ◌*◌, ◌≤◌}
+use native.Mathlib.Omega.{arith}
+use lib.ListN.{length}
+use Rattle.ground_spans.specs.Changes.{made, allows}
+use Rattle.ground_spans.proofs.Rows.{Rows, rows_none, row_ends, row_allowed, rows_more, rows_all, none_across}
+use Rattle.ground_spans.proofs.change_span.Given as goal
+
+abbrev pub invariant-loop-y : goal.invariant-loop-y
+invariant-loop-y l = ((l.y ≤ l.bottom) ⊎ (l.y ≡ l.initial.y)) × Rows (made l.change) l.initial.map l.width l.left l.right l.initial.y l.map l.y
+
+abbrev pub decreases-loop-y : goal.decreases-loop-y
+decreases-loop-y l = l.bottom - l.y
