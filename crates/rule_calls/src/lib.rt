@@ -1,1 +1,2 @@
 // The calls: definitions alone.
+#![tactic(auto)]

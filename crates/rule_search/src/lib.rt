@@ -1,1 +1,2 @@
 // The search over sets of placements, frame by frame.
+#![tactic(auto)]
