@@ -1,5 +1,7 @@
 // What a byte of a pattern stands for. Apart from the readers and the printer, which both ask it: a wrong mark is refused here, without
 // them.
+#![tactic(auto)]
+
 ghost use Rattle.std.specs.Prelude.{◌≡◌};
 ghost use Rattle.text_forms.specs.Patterns.{piece, limit_of, is_number};
 
