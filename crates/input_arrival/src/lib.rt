@@ -1,4 +1,6 @@
 // How much of an input has arrived, told from what each read of it answers.
+#![tactic(auto)]
+
 ghost use Rattle.std.specs.Prelude.{◌≡◌};
 ghost use Rattle.input_arrival.specs.Arrivals.{takes};
 ghost use Rattle.input_arrival.specs.declared.Arrival.TheVariants.{Going};
