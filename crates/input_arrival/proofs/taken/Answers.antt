@@ -2,7 +2,6 @@
 use mathlib.Core.Path.{sym}
 use native.Mathlib.Omega.{arith}
 use mir.Facts.{to_z-of_z, Fits-nat_abs}
-use borrow.Author.Rules.{rules}
 use Rattle.input_arrival.proofs.Taking.{not_below, takes_failed, takes_full, takes_end, takes_more}
 use Rattle.input_arrival.proofs.taken.Goals as goal
 
