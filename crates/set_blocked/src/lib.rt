@@ -1,4 +1,6 @@
 // What a set of placements blocks: a mover's baseline with the members' collision rectangles laid over it.
+#![tactic(auto)]
+
 ghost use Rattle.std.specs.Prelude.{◌≡◌, not, ◌≤◌, eqb, length, get_or};
 ghost use Rattle.base_laws.specs.Fill.{filled};
 ghost use Rattle.ground_rects.specs.Windows.{centres};
