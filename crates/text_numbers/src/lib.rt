@@ -1,4 +1,6 @@
 // Numbers read from a text. Apart from the lines: a reader of numbers that takes a wrong range or sign is refused without their loops.
+#![tactic(auto)]
+
 ghost use Rattle.std.specs.Prelude.{◌≡◌, true, ◌-◌, ◌≤◌, ◌<◌, length, get_or};
 ghost use Rattle.text_forms.specs.Forms.{number as number_form, integer as integer_form};
 ghost use Rattle.text_forms.specs.Patterns.{piece, is_number, form_of};
