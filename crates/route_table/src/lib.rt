@@ -1,4 +1,6 @@
 // The table of steps: eight x, y pairs, in the order in which a search tries them.
+#![tactic(auto)]
+
 ghost use Rattle.std.specs.Prelude.{◌≡◌, length};
 ghost use Rattle.base_laws.specs.Lists.{select};
 ghost use Rattle.rule_routes.specs.Edges.{step_by, steps_of, same_step, table_fits, original_steps};
