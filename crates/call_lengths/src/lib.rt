@@ -1,4 +1,6 @@
 // Whether lent areas are long enough.
+#![tactic(auto)]
+
 ghost use Rattle.std.specs.Prelude.{◌≡◌, true, ◌*◌, ◌≤◌, min, length};
 ghost use Rattle.ground_rects.specs.Windows.{window_fits};
 ghost use Rattle.rule_layouts.specs.Inputs.{Inputs};
