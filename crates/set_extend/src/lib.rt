@@ -1,4 +1,6 @@
 // Which placements extend a set: those that may join it and touch the route that it leaves.
+#![tactic(auto)]
+
 ghost use Rattle.std.specs.Prelude.{◌≡◌, true, List, ◌≤◌, ◌<◌, length, take};
 ghost use Rattle.ground_rects.specs.Spans.{in_span};
 ghost use Rattle.rule_routes.specs.Edges.{Step};
