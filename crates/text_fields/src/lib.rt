@@ -1,5 +1,7 @@
 // A number of a pattern written, and how many bytes it takes. Apart from the lines: a digit or a sign that is wrong is refused without
 // their loops.
+#![tactic(auto)]
+
 ghost use Rattle.std.specs.Prelude.{◌≡◌, ◌+◌, ◌≤◌, length};
 ghost use Rattle.text_forms.specs.Forms.{decimal, signed};
 ghost use Rattle.text_forms.specs.Patterns.{piece, form_of};
