@@ -2,20 +2,16 @@
 use Prim.Native.Nat.{ℕ, ◌+◌, ◌≤◌, ◌<◌}
 use mathlib.Core.Path.{◌≡◌, refl, sym, ◌∙◌, subst}
 use mathlib.Core.Bool.{Bool, true, false}
-use mathlib.Core.Logic.{⊎_elim}
-use mathlib.Core.List.{List, [], ◌∷◌}
+use mathlib.Core.List.{List}
 use native.Mathlib.Omega.{arith}
 use lib.Dec.{ltb, eqb}
 use lib.IntN.{ℤ, pos, negsuc}
 use lib.ListN.{length, take}
 use lib.Seq.{length-take-le}
-use types.Run.{OneOf}
-use denote.Enum.Declared.{tag_of}
 use borrow.Author.Tests.{ltb-true, eqb-false}
 use Rattle.input_arrival.specs.Arrivals.{takes}
 use Rattle.input_arrival.specs.declared.Arrival.{Arrival}
 use Rattle.input_arrival.specs.declared.Arrival.TheVariants.{Going, Whole, Cut}
-use Rattle.input_arrival.specs.contracts.Arrival.{the_type}
 use Rattle.input_read.specs.Reads.{ReadOnce, AllRead}
 
 module _ (room at : ℕ) (r : Arrival) (h : ReadOnce room at r) where
@@ -51,8 +47,8 @@ module _ (room at : ℕ) (r : Arrival) (h : ReadOnce room at r) where
           omega arith
 
 -- the arm for a whole or a cut input ends the reading
-pub all_read : (room at : ℕ) (r : Arrival) → ReadOnce room at r → (area : List ℕ) → length area ≡ room → OneOf (1 ∷ 2 ∷ []) (tag_of the_type r) → AllRead area r
-all_read room at (Going n) h area e o = ⊎_elim (λ q. let no : ⊥ = omega arith in no) (λ q. let no : ⊥ = omega arith in no) o
+pub all_read : (room at : ℕ) (r : Arrival) → ReadOnce room at r → (area : List ℕ) → length area ≡ room → ((n : ℕ) → r ≡ Going n → ⊥) → AllRead area r
+all_read room at (Going n) h area e o = o n refl
 all_read room at (Whole n) h area e o = let l = ends room at (Whole n) h h.answer n (sym h.is) in omega arith
 all_read room at Cut h area e o = tt
 

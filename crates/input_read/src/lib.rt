@@ -1,26 +1,32 @@
 // Reads an input to its end.
+#![tactic(auto)]
+
 ghost use Rattle.std.specs.Prelude.{◌≤◌, length};
 ghost use Rattle.input_read.specs.Reads.{ReadOnce, AllRead};
 
 use input_arrival::Arrival;
+use std::io::Read;
 
 // One read into the area, after the bytes that stand there.
-fn read_more(fd: i32, area: &mut [u8], at: usize) -> Arrival
+fn read_more<R: Read>(reader: &mut R, area: &mut [u8], at: usize) -> Arrival
     requires { at ≤ length area.old }
     ensures { ReadOnce (length area.old) at result }
 {
     let room = area.len();
-    let got = libc::read(fd, &mut area[at..]);
+    let got = match reader.read(&mut area[at..]) {
+        Ok(n) => n as isize,
+        Err(_) => -1,
+    };
     input_arrival::taken(at, room, got)
 }
 
 // Reads until the input ends, a read fails or the area is full, and tells which: only at the end of the input is it whole.
-pub fn read_all(fd: i32, area: &mut [u8]) -> Arrival
+pub fn read_all<R: Read>(reader: &mut R, area: &mut [u8]) -> Arrival
     ensures { AllRead area.new result }
 {
     let mut at = 0;
     while at < area.len() {
-        let next = read_more(fd, area, at);
+        let next = read_more(reader, area, at);
         let Arrival::Going(n) = next else {
             return next;
         };
