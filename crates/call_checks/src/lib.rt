@@ -1,4 +1,6 @@
 // The checks that the calls share.
+#![tactic(auto)]
+
 ghost use Rattle.std.specs.Prelude.{◌≡◌, true, ◌&&◌, List, ℕ, ◌+◌, ◌*◌, ◌/◌, ◌≤◌, min, leb, ℤ, length};
 ghost use Rattle.base_model.specs.Answers.{first, reply_of};
 ghost use Rattle.ground_rects.specs.Rects.{small};
