@@ -1,4 +1,6 @@
 // Lines written by their pattern, at a place of a lent area. `put_line` answers every input; it has no `requires`.
+#![tactic(auto)]
+
 ghost use Rattle.std.specs.Prelude.{◌≡◌, true, ◌+◌, ◌≤◌, leb, length};
 ghost use Rattle.text_forms.specs.Patterns.{line, piece, is_number, form_of, fields};
 ghost use Rattle.text_forms.specs.Writing.{Put};
