@@ -1,4 +1,6 @@
 // What is looked at in a set of placements before any map: the slots of its groups, and whether its footprints overlap.
+#![tactic(auto)]
+
 ghost use Rattle.std.specs.Prelude.{◌≡◌, ◌+◌, ◌*◌, ◌≤◌, ◌<◌, length};
 ghost use Rattle.base_laws.specs.Lists.{any_of};
 ghost use Rattle.rule_layouts.specs.Flat.{places_in};
