@@ -1,4 +1,6 @@
 // One centre of the search for a route: the steps of the table tried in order.
+#![tactic(auto)]
+
 ghost use Rattle.std.specs.Prelude.{◌≡◌, ◌*◌, ◌<◌, ◌^◌, [], ◌∷◌, pos, ◌+ℤ◌};
 ghost use Rattle.base_laws.specs.Lists.{all_of};
 ghost use Rattle.rule_routes.specs.Edges.{step_by, steps_of, sides_from, window_edges};
@@ -76,10 +78,10 @@ fn enter(
     requires window { Window map.now width height }
     requires x_lt_width { (x < width) × (y < height) }
     requires u_bound { u < width * height }
-    requires search_room { SearchRoom (width * height) (record { queue = queue.now; predecessors = predecessors.old; tail = tail }) }
-    ensures { record { queue = queue.exit.now; predecessors = predecessors.new; tail = result }
+    requires search_room { SearchRoom (width * height) (record { queue = queue.old; predecessors = predecessors.old; tail = tail }) }
+    ensures { record { queue = queue.new; predecessors = predecessors.new; tail = result }
         ≡ tried u (leads map.now width height (pos x) (pos y) (step_by dx dy ∷ []))
-        (record { queue = queue.entry.now; predecessors = predecessors.old; tail = tail }) }
+        (record { queue = queue.old; predecessors = predecessors.old; tail = tail }) }
 {
     let right = moved(x, dx, width);
     if right == 0 {
@@ -119,10 +121,10 @@ pub fn expand(
 ) -> usize
     requires window { Window map.now width height }
     requires u_bound { u < width * height }
-    requires search_room { SearchRoom (width * height) (record { queue = queue.now; predecessors = predecessors.old; tail = tail }) }
-    ensures { record { queue = queue.exit.now; predecessors = predecessors.new; tail = result }
+    requires search_room { SearchRoom (width * height) (record { queue = queue.old; predecessors = predecessors.old; tail = tail }) }
+    ensures { record { queue = queue.new; predecessors = predecessors.new; tail = result }
         ≡ tried u (routes.neighbours (window_edges width height (steps_of steps.now)) (open_in map.now) u)
-        (record { queue = queue.entry.now; predecessors = predecessors.old; tail = tail }) }
+        (record { queue = queue.old; predecessors = predecessors.old; tail = tail }) }
 {
     let x = u % width;
     let y = u / width;
