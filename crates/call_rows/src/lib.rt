@@ -1,4 +1,6 @@
 // Check 16, on the numbers, rows and kept routes of a record.
+#![tactic(auto)]
+
 ghost use Rattle.std.specs.Prelude.{◌≡◌, true, ◌&&◌, ℕ, ◌+◌, ◌*◌, ◌≤◌, ltb, length, take};
 ghost use Rattle.base_laws.specs.Lists.{all_of, below, ascends};
 ghost use Rattle.ground_rects.specs.Windows.{window_fits};
