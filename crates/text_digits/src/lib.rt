@@ -1,4 +1,6 @@
 // Digits run together, read from a text. Apart from the lines, which read no digit by itself.
+#![tactic(auto)]
+
 ghost use Rattle.std.specs.Prelude.{◌≡◌, ◌++◌, ◌+◌, ◌≤◌, length, drop};
 ghost use Rattle.text_digits.specs.Answers.{DigitsRead};
 ghost use Rattle.text_digits.specs.Inner.{DigitRun, cells};
