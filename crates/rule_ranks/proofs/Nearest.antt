@@ -34,10 +34,10 @@ record Measured (s : Site) (r : Rect) (m : Measure) : Type 0 where
 
 module _ (s : Site) (r : Rect) where
   -- beside an end: v is the way from it to the centre, w the way from it to the other end
-  beside_end : (v w : Vector) (m : ℕ → ℕ → ℕ) → ((a b : ℕ) → scaled s r a b ≡ squared_length (combined (a + b) v (m a b) w)) → up (dot v w) ≤ dn (dot v w)
+  beside_end_lem : (v w : Vector) (m : ℕ → ℕ → ℕ) → ((a b : ℕ) → scaled s r a b ≡ squared_length (combined (a + b) v (m a b) w)) → up (dot v w) ≤ dn (dot v w)
       → (a b : ℕ) → a + b ≡ 1 → m a b ≡ 0 → Measured s r (beside_end s.radius v)
   unfolding beside_end scale
-  beside_end v w m way obtuse a b one none =
+  beside_end_lem v w m way obtuse a b one none =
       let end : scaled s r a b ≡ squared_length (combined 1 v 0 w) = rw (one, none) at (way a b) in
       record {
         nearest = record {
@@ -71,7 +71,7 @@ module _ (s : Site) (r : Rect) where
   -- ---- the three places of the centre
   nearest_first : le_z (projection_twice s r) (pos 0) ≡ true → Measured s r (beside_end s.radius (from_first s r))
   unfolding projection_twice
-  nearest_first e = beside_end (from_first s r) (segment s) (λ a b. 2 * b) (first_way s r) (omega (arith, le_z_fact (projection_twice s r) (pos 0) e)) 1 0 refl refl
+  nearest_first e = beside_end_lem (from_first s r) (segment s) (λ a b. 2 * b) (first_way s r) (omega (arith, le_z_fact (projection_twice s r) (pos 0) e)) 1 0 refl refl
 
   nearest_second : le_z (pos (2 * squared_length (segment s))) (projection_twice s r) ≡ true → Measured s r (beside_end s.radius (from_second s r))
   unfolding projection_twice from_second less_twice
@@ -80,7 +80,7 @@ module _ (s : Site) (r : Rect) where
       let obtuse : up (twice -ℤ projection_twice s r) ≤ dn (twice -ℤ projection_twice s r) =
       omega (arith, le_z_fact twice (projection_twice s r) e, minus_parts twice (projection_twice s r))
       in
-      beside_end (from_second s r) (turned (segment s)) (λ a b. 2 * a) (second_way s r) (rw (dot_turned (from_first s r) (segment s)) obtuse) 0 1 refl refl
+      beside_end_lem (from_second s r) (turned (segment s)) (λ a b. 2 * a) (second_way s r) (rw (dot_turned (from_first s r) (segment s)) obtuse) 0 1 refl refl
 
   nearest_between : le_z (projection_twice s r) (pos 0) ≡ false → le_z (pos (2 * squared_length (segment s))) (projection_twice s r) ≡ false → Measured s r (between_ends s r)
   nearest_between e f =

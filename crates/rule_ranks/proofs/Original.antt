@@ -34,9 +34,9 @@ quotient_of m =
     (λ h. rw h (ap quotient_in (ranking_within m h)))
     (λ h. rw h (ap quotient_in (ranking_above m h)))
 
-beside_end : (radius : ℕ) (v : Vector) → quotient_in (ranking (beside_end radius v)) ≡ endpoint_rank (4 * radius * radius) v
+beside_end_lem : (radius : ℕ) (v : Vector) → quotient_in (ranking (beside_end radius v)) ≡ endpoint_rank (4 * radius * radius) v
 unfolding beside_end endpoint_rank
-beside_end radius v =
+beside_end_lem radius v =
     let same : 4 * (radius * radius) ≡ 4 * radius * radius = omega arith in
     quotient_of (beside_end radius v) ∙ ap (up_to (squared_length v) 4) same
 
@@ -60,6 +60,6 @@ unfolding AsOriginal original_rank
 as_original across down s r e =
     ap quotient_in (call_passes across down s r e)
     ∙ measure_cases s r (λ (m : Measure). quotient_in (ranking m) ≡ original_rank s r)
-    (λ h. rw (original_rank, h) (beside_end s.radius (from_first s r)))
-    (λ h k. rw (original_rank, h, k) (beside_end s.radius (from_second s r)))
+    (λ h. rw (original_rank, h) (beside_end_lem s.radius (from_first s r)))
+    (λ h k. rw (original_rank, h, k) (beside_end_lem s.radius (from_second s r)))
     (λ h k. rw (original_rank, h, k) (between_ends_lem s r))

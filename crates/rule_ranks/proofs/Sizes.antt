@@ -1,27 +1,22 @@
 -- How large the numbers of a measure become: `fits_words`, and for the code the same from what each check leaves. Ways are bounded axis by axis; products, squares
 -- and sums follow from the bounds of their parts.
-use mathlib.Core.Path.{◌≡◌, refl, sym, ap, ◌∙◌}
-use mathlib.Core.Bool.{Bool, true, false, cond, true≢false}
-use mathlib.Core.Option.{none}
+use mathlib.Core.Path.{◌≡◌, sym, ◌∙◌}
+use mathlib.Core.Bool.{false, true≢false}
 use Prim.Native.Nat.{ℕ, ◌+◌, ◌*◌, ◌≤◌, ◌<◌}
 use native.Mathlib.Nat.{mul-le-mul, mul-pos}
 use native.Mathlib.Omega.{arith}
 use lib.Dec.{eqb}
 use lib.IntN.{ℤ, pos, nat_abs, ◌+ℤ◌, ◌-ℤ◌, ◌*ℤ◌}
-use lib.Signed.{le_z}
 use borrow.Author.Tests.{eq-eqb}
-use Rattle.base_laws.specs.Ints.{up, dn}
 use Rattle.base_laws.proofs.Ints.{add_parts, minus_parts}
 use Rattle.base_laws.proofs.Magnitudes.{abs_parts, abs_within, abs_add, abs_minus, abs_mul_le, twice_up, twice_dn}
 use Rattle.base_laws.proofs.Members.{either, both_true}
-use Rattle.base_model.specs.Answers.{first}
 use Rattle.base_model.specs.declared.Rect.{Rect}
-use Rattle.base_model.specs.declared.Position.{Position}
 use Rattle.base_model.specs.declared.Site.{Site}
 use Rattle.rule_ranks.specs.declared.Vector.{Vector}
 use Rattle.rule_ranks.specs.declared.Measure.{Measure}
-use Rattle.rule_ranks.specs.Measures.{square, squared_length, dot, cross, segment, from_first, from_second, projection_twice, beside_end, between_ends, measure_of}
-use Rattle.rule_ranks.specs.Ranks.{same_point, rank_checks}
+use Rattle.rule_ranks.specs.Measures.{square, squared_length, dot, cross, segment, from_first, from_second, projection_twice, beside_end, between_ends}
+use Rattle.rule_ranks.specs.Ranks.{same_point}
 use Rattle.rule_ranks.specs.Sizes.{Within, Sizes, FitsWords}
 use Rattle.rule_ranks.proofs.Ends.{measure_cases}
 use Rattle.rule_ranks.proofs.Passed.{Edge, Passed, asked, passed}
@@ -141,8 +136,8 @@ module _ (s : Site) (r : Rect) (p : Passed s r) where
       in
       record {
         entrance = along;
-        from_first = first_le;
-        from_second_lem = from_second_le;
+        first_within = first_le;
+        second_within = from_second_le;
         some = some_way s p.two;
         squared = squared_le (segment s) 8192 along;
         projection = dot_le (from_first s r) (segment s) 16384 8192 first_le along;

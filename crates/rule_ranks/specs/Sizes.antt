@@ -15,8 +15,8 @@ pub record Within (n : ℕ) (v : Vector) : Type 0 where
 
 pub record Sizes (s : Site) (r : Rect) : Type 0 where
   pub entrance : Within (2 ^ 13) (segment s)
-  pub from_first : Within (2 ^ 14) (from_first s r)
-  pub from_second_lem : Within (2 ^ 14) (from_second s r)
+  pub first_within : Within (2 ^ 14) (from_first s r)
+  pub second_within : Within (2 ^ 14) (from_second s r)
   -- the ends are two points
   pub some : 0 < squared_length (segment s)
   pub squared : squared_length (segment s) ≤ 2 ^ 27
