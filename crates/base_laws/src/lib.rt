@@ -1,1 +1,3 @@
+#![tactic(auto)]
+
 // Words for lists and laws that several crates cite. No code.

@@ -1,8 +1,7 @@
-use borrow.Author.Rules.{rules}
+-- The answers to the goals of `base_areas::clear_i32`.
 use mathlib.Core.Path.{refl, ◌∙◌}
-use Prim.Native.Nat.{ℕ, ◌-◌}
+use Prim.Native.Nat.{ℕ}
 use lib.IntN.{pos}
-use Rattle.base_laws.specs.Fill.{Filling}
 use Rattle.base_laws.proofs.Fill.{filling_none, filling_more, filling_all, filled_const}
 use Rattle.base_areas.proofs.clear_i32.Goals as goal
 

@@ -1,10 +1,7 @@
 -- `base_areas::clear_i32` meets its contract: the loop writes 0 at each index below n.
-use borrow.Author.Rules.{rules}
-use mathlib.Core.Path.{refl, ◌∙◌}
 use Prim.Native.Nat.{ℕ, ◌-◌}
 use lib.IntN.{pos}
 use Rattle.base_laws.specs.Fill.{Filling}
-use Rattle.base_laws.proofs.Fill.{filling_none, filling_more, filling_all, filled_const}
 use Rattle.base_areas.proofs.clear_i32.Given as goal
 
 abbrev pub invariant-loop-at : goal.invariant-loop-at

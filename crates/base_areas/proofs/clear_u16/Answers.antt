@@ -1,7 +1,6 @@
-use borrow.Author.Rules.{rules}
+-- The answers to the goals of `base_areas::clear_u16`.
 use mathlib.Core.Path.{refl, ◌∙◌}
-use Prim.Native.Nat.{ℕ, ◌-◌}
-use Rattle.base_laws.specs.Fill.{Filling}
+use Prim.Native.Nat.{ℕ}
 use Rattle.base_laws.proofs.Fill.{filling_none, filling_more, filling_all, filled_const}
 use Rattle.base_areas.proofs.clear_u16.Goals as goal
 

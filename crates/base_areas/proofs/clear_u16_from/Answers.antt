@@ -1,5 +1,4 @@
 -- `base_areas::clear_u16_from` meets its contract: the part from `at` on is lent to `clear_u16`.
-use borrow.Author.Rules.{rules}
 use mathlib.Core.Path.{◌∙◌, ap}
 use mathlib.Core.List.{List, ◌++◌}
 use Prim.Native.Nat.{◌-◌}

@@ -1,8 +1,7 @@
-use borrow.Author.Rules.{rules}
+-- The answers to the goals of `base_areas::copy_u32`.
 use mathlib.Core.Path.{refl}
-use Prim.Native.Nat.{ℕ, ◌-◌}
+use Prim.Native.Nat.{ℕ}
 use lib.ListN.{get_or}
-use Rattle.base_laws.specs.Fill.{Filling}
 use Rattle.base_laws.proofs.Fill.{filling_none, filling_more}
 use Rattle.base_areas.proofs.Copied.{copied}
 use Rattle.base_areas.proofs.copy_u32.Goals as goal

@@ -1,11 +1,7 @@
 -- `base_areas::copy_u32` meets its contract: the loop writes the other area's entry at each index below n.
-use borrow.Author.Rules.{rules}
-use mathlib.Core.Path.{refl}
 use Prim.Native.Nat.{ℕ, ◌-◌}
 use lib.ListN.{get_or}
 use Rattle.base_laws.specs.Fill.{Filling}
-use Rattle.base_laws.proofs.Fill.{filling_none, filling_more}
-use Rattle.base_areas.proofs.Copied.{copied}
 use Rattle.base_areas.proofs.copy_u32.Given as goal
 
 abbrev pub invariant-loop-k : goal.invariant-loop-k

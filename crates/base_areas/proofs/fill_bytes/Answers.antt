@@ -1,10 +1,10 @@
-use borrow.Author.Rules.{rules}
+-- The answers to the goals of `base_areas::fill_bytes`.
 use mathlib.Core.Path.{◌≡◌, refl, ◌∙◌}
 use mathlib.Core.List.{List}
-use Prim.Native.Nat.{ℕ, ◌-◌}
+use Prim.Native.Nat.{ℕ}
 use native.Mathlib.Omega.{arith}
 use lib.ListN.{length, replicate}
-use Rattle.base_laws.specs.Fill.{filled, Filling}
+use Rattle.base_laws.specs.Fill.{filled}
 use Rattle.base_laws.proofs.Fill.{filling_none, filling_more, filling_all, filled_const}
 use Rattle.base_laws.proofs.Stores.{whole_cleared}
 use Rattle.base_areas.proofs.fill_bytes.Goals as goal

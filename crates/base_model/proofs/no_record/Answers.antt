@@ -1,5 +1,4 @@
 -- `base_model::no_record` meets its contract: it is the fresh record of these values.
-use borrow.Author.Rules.{rules}
 use Rattle.base_model.proofs.no_record.Goals as goal
 
 pub returns : goal.returns

@@ -1,3 +1,4 @@
+-- The answers to the goals of `ground_baseline::blocked_centers`.
 use mathlib.Core.Path.{◌≡◌, ap, ◌∙◌, subst}
 use mathlib.Core.Bool.{true}
 use mathlib.Core.List.{List}

@@ -1,3 +1,4 @@
+-- The answers to the goals of `ground_baseline::blocked_row`.
 use borrow.Author.Rules.{rules}
 use mathlib.Core.Path.{◌≡◌, refl, ◌∙◌, subst}
 use mathlib.Core.Bool.{◌||◌}

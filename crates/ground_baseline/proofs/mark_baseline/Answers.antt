@@ -80,12 +80,15 @@ clear_i32-requires-2 c =
 
 pub returns : goal.returns
 returns c =
-    let a = c.args in record { baseline_after = marked (record { across = a.across; down = a.down; cells = a.cells.now }) a.obstacles.now a.window a.mover
+    let a = c.args in record {
+      baseline_after = marked (record { across = a.across; down = a.down; cells = a.cells.now }) a.obstacles.now a.window a.mover
           a.counts.now (length a.baseline.now) c.width-stride.result c.height.result c.requires c.width-stride.ensures.0
           c.height.ensures.0 c.clear_i32.new.s c.clear_i32.ensures c.stamp_terrain_blockers.new.counts
           c.stamp_terrain_blockers.ensures c.stamp_obstacles.new.counts c.stamp_obstacles.ensures c.finish.new.counts c.finish.ensures
-          a.baseline.now c.blocked_centers.new.baseline c.blocked_centers.ensures;  counts_after = cleared (record { across = a.across; down = a.down; cells = a.cells.now }) a.obstacles.now a.window a.mover
+          a.baseline.now c.blocked_centers.new.baseline c.blocked_centers.ensures;
+      counts_after = cleared (record { across = a.across; down = a.down; cells = a.cells.now }) a.obstacles.now a.window a.mover
           a.counts.now (length a.baseline.now) c.width-stride.result c.height.result c.requires c.width-stride.ensures.0
           c.height.ensures.0 c.clear_i32.new.s c.clear_i32.ensures c.stamp_terrain_blockers.new.counts
           c.stamp_terrain_blockers.ensures c.stamp_obstacles.new.counts c.stamp_obstacles.ensures c.finish.new.counts c.finish.ensures
-          c.clear_i32-2.new.s c.clear_i32-2.ensures }
+          c.clear_i32-2.new.s c.clear_i32-2.ensures;
+    }

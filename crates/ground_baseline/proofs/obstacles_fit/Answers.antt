@@ -1,3 +1,4 @@
+-- The answers to the goals of `ground_baseline::obstacles_fit`.
 use borrow.Author.Rules.{rules}
 use mathlib.Core.Path.{◌≡◌, sym, ap, ◌∙◌}
 use mathlib.Core.Bool.{Bool, true, false, ◌&&◌, and-false}

@@ -1,3 +1,4 @@
+-- The answers to the goals of `ground_baseline::stamp_terrain_blockers`.
 use borrow.Author.Rules.{rules}
 use mathlib.Core.Path.{◌≡◌, refl, sym, ◌∙◌, subst}
 use mathlib.Core.List.{List, ◌∷◌, ◌++◌}

@@ -1,5 +1,4 @@
 -- `ground_rects::clamped` meets its contract: the edge lies before `from`, past `to`, or between them.
-use borrow.Author.Rules.{rules}
 use Prim.Native.Nat.{suc, ◌+◌, ◌-◌}
 use native.Mathlib.Omega.{arith}
 use Rattle.base_laws.proofs.Ints.{leb_iff}

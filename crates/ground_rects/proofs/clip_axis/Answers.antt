@@ -1,5 +1,4 @@
 -- `ground_rects::clip_axis` meets its contract: both sides of each test are 2^31 + 256 more than the numbers of the rule.
-use borrow.Author.Rules.{rules}
 use mathlib.Core.Path.{◌∙◌, ap₂}
 use mathlib.Core.Bool.{◌&&◌}
 use Prim.Native.Nat.{◌+◌, ◌-◌}

@@ -1,5 +1,4 @@
 -- `ground_rects::height` meets its contract: the bias falls away from the difference.
-use borrow.Author.Rules.{rules}
 use native.Mathlib.Omega.{arith}
 use Rattle.base_laws.proofs.Ints.{lt_z_fact}
 use Rattle.ground_rects.proofs.Edges.{edges}

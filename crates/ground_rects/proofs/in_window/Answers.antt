@@ -1,5 +1,4 @@
 -- `ground_rects::in_window` meets its contract: the pixels that a rectangle keeps a mover of one pixel off are its own.
-use borrow.Author.Rules.{rules}
 use mathlib.Core.Path.{◌∙◌}
 use lib.IntN.{pos}
 use Rattle.ground_rects.specs.Windows.{in_window}

@@ -1,5 +1,4 @@
 -- `ground_rects::keeps_off` meets its contract: the rule holds where it holds on both axes.
-use borrow.Author.Rules.{rules}
 use mathlib.Core.Path.{sym, ◌∙◌}
 use lib.IntN.{pos}
 use Rattle.ground_rects.proofs.Edges.{edges}

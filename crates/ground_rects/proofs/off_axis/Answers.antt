@@ -1,5 +1,4 @@
 -- `ground_rects::off_axis` meets its contract: both sides of each test are 2^31 more than the numbers of the rule.
-use borrow.Author.Rules.{rules}
 use Prim.Native.Nat.{◌+◌}
 use native.Mathlib.Omega.{arith}
 use lib.IntN.{pos, ◌+ℤ◌, ◌-ℤ◌}

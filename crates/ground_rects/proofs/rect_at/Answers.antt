@@ -6,7 +6,6 @@ use mir.Syntax.{w32}
 use Rattle.base_laws.proofs.Ints.{back}
 use Rattle.ground_rects.specs.Rects.{rect}
 use Rattle.ground_rects.specs.Spans.{nth_rect}
-use borrow.Author.Rules.{rules}
 use Rattle.ground_rects.proofs.rect_at.Goals as goal
 
 pub returns : goal.returns

@@ -1,5 +1,4 @@
 -- `ground_rects::window_fits` meets its contract: each test is the definition's, in its order. The product of two numbers below 2^32 fits.
-use borrow.Author.Rules.{rules}
 use mathlib.Core.Path.{◌≡◌, refl, sym, ◌∙◌, ap, ap₂}
 use mathlib.Core.Bool.{true, false}
 use Prim.Native.Nat.{ℕ, ◌*◌, ◌≤◌}
@@ -7,7 +6,6 @@ use native.Mathlib.Nat.{mul-le-mul}
 use native.Mathlib.Omega.{arith}
 use lib.Dec.{leb}
 use lib.IntN.{pos}
-use borrow.Author.Tests.{not-true, not-false}
 use Rattle.base_laws.proofs.Ints.{fact_le_z, fact_nle_z}
 use Rattle.ground_rects.specs.Rects.{nonempty}
 use Rattle.ground_rects.specs.Windows.{window_fits, centres}

@@ -1,3 +1,4 @@
+-- The answers to the goals of `ground_spans::change_span`.
 use borrow.Author.Rules.{rules}
 use mathlib.Core.Path.{◌≡◌, refl}
 use mathlib.Core.Logic.{◌⊎◌, inl, inr}

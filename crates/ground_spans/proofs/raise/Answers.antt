@@ -1,3 +1,4 @@
+-- The answers to the goals of `ground_spans::raise`.
 use borrow.Author.Rules.{rules}
 use mathlib.Core.Path.{◌≡◌, ap, ◌∙◌}
 use mathlib.Core.List.{List}

@@ -1,3 +1,4 @@
+-- The answers to the goals of `ground_spans::row_allows`.
 use borrow.Author.Rules.{rules}
 use mathlib.Core.Path.{◌≡◌, sym, ◌∙◌}
 use mathlib.Core.Bool.{true}

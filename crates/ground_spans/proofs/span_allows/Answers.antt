@@ -1,3 +1,4 @@
+-- The answers to the goals of `ground_spans::span_allows`.
 use borrow.Author.Rules.{rules}
 use mathlib.Core.Path.{refl, sym, ◌∙◌}
 use mathlib.Core.Bool.{true≢false}

@@ -1,3 +1,4 @@
+-- The answers to the goals of `set_places::count_in_group`.
 use borrow.Author.Rules.{rules}
 use mathlib.Core.Path.{◌≡◌, refl, sym, ap, ◌∙◌}
 use mathlib.Core.Bool.{Bool}
