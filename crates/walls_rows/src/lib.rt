@@ -1,4 +1,6 @@
 // Placements as flat rows of numbers and edges, one at a time.
+#![tactic(auto)]
+
 ghost use Rattle.std.specs.Prelude.{◌≡◌, ◌+◌, ◌*◌, ◌≤◌, min, pos, length, replicate};
 ghost use Rattle.base_laws.specs.Fill.{over};
 ghost use Rattle.walls_rows.specs.Rows.{place_numbers, rect_edges, both_of};
