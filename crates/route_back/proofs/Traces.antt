@@ -1,5 +1,5 @@
 -- The way back from a node to the start, by the area of predecessors.
-use mathlib.Core.Path.{◌≡◌, refl, sym, ap, ◌∙◌, subst}
+use mathlib.Core.Path.{◌≡◌, refl, sym, ap, ◌∙◌}
 use mathlib.Core.List.{List, ◌∷◌}
 use Prim.Native.Nat.{ℕ, ◌<◌}
 use native.Mathlib.Decide.{dec_lt}
@@ -23,11 +23,14 @@ traced_set {predecessors} v w e (Traced·from {x = x} ne m t) =
     Traced·from ne (get_or-set_other predecessors v x w 0 (λ q. let z = sym m ∙ ap (λ (n : ℕ). get_or predecessors n 0) q ∙ e in omega arith) ∙ m) (traced_set v w e t)
 
 -- there is one way back
+traced_at : {predecessors : List ℕ} {start x y : ℕ} {l : List ℕ} → Traced predecessors start x l → (m : List ℕ) → Traced predecessors start y m → x ≡ y → l ≡ m
+traced_at Traced·home m Traced·home q = refl
+traced_at Traced·home m (Traced·from ne e t) q = absurd (ne (sym q))
+traced_at (Traced·from ne e s) m Traced·home q = absurd (ne q)
+traced_at {predecessors} {start} (Traced·from {u = u} {back = l} ne e s) m (Traced·from {u = w} {back = k} ne' e' t) q =
+    let same : u ≡ w = let r = sym e ∙ ap (λ (n : ℕ). get_or predecessors n 0) q ∙ e' in omega arith in
+    let rest : l ≡ k = traced_at s k t same in
+    ap (λ (n : ℕ). n ∷ l) same ∙ ap (λ (r : List ℕ). w ∷ r) rest
+
 pub traced_one : {predecessors : List ℕ} {start x : ℕ} {l : List ℕ} → Traced predecessors start x l → (m : List ℕ) → Traced predecessors start x m → l ≡ m
-traced_one Traced·home m Traced·home = refl
-traced_one Traced·home m (Traced·from ne e t) = absurd (ne refl)
-traced_one (Traced·from ne e s) m Traced·home = absurd (ne refl)
-traced_one {predecessors} {start} (Traced·from {u = u} {back = l} ne e s) m (Traced·from {u = w} {back = k} ne' e' t) =
-    let same : w ≡ u = let q = sym e ∙ e' in omega arith in
-    let rest : l ≡ k = traced_one s k (subst (λ (n : ℕ). Traced predecessors start n k) same t) in
-    ap (λ (n : ℕ). n ∷ l) (sym same) ∙ ap (λ (r : List ℕ). w ∷ r) rest
+traced_one s m t = traced_at s m t refl

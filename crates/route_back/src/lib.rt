@@ -1,4 +1,6 @@
 // The way back over the predecessors, and the working areas wiped.
+#![tactic(auto)]
+
 ghost use Rattle.std.specs.Prelude.{◌≡◌, ◌≤◌, ◌<◌, ◌^◌, ◌++◌, length, drop, replicate};
 ghost use Rattle.route_back.specs.Ways.{Leads, BackCounted, RouteLaid};
 
