@@ -1,4 +1,6 @@
 // Clearing the areas of a call up to their lengths.
+#![tactic(auto)]
+
 ghost use Rattle.std.specs.Prelude.{◌≡◌, true, length};
 ghost use Rattle.ground_rects.specs.Windows.{window_fits};
 ghost use Rattle.rule_layouts.specs.Inputs.{Inputs};
