@@ -1,5 +1,7 @@
 // A line walked by its pattern: whether the pattern can be read and how many numbers it has, where the line ends, and its numbers stored.
 // Apart from the readers: a wrong answer of theirs is refused without these loops.
+#![tactic(auto)]
+
 ghost use Rattle.std.specs.Prelude.{◌≡◌, true, ◌≤◌, length};
 ghost use Rattle.text_forms.specs.Patterns.{good, fields, repeats};
 ghost use Rattle.text_lines.specs.Answers.{PassRead, Stored};
