@@ -3,9 +3,9 @@
 # make try       answers a drive sheet within seconds, from a build of the same code that is not proved: make try SHEET=file
 # make edits     tries the must-fail edits of one crate alone: make edits CRATE=name
 # make times     proves every crate from nothing, in a copy: each crate's seconds, the total, what its edits cost; LOG=file reads a gate's output
-# make walks     writes the walks of the functions in tools/walks.txt again, from the sources; needs python3, as make test does to compare them
 # make worked    writes what `program_worked` is run on, and what it must print, from sheets/
-# make bindings  proves the C functions and makes their archive, builds and runs the C examples, plays stored searches through `walls`,
+# make lib       proves the C functions and makes their archive, target/staticlib/libwalls_c.a
+# make bindings  makes that archive, builds and runs the C examples, plays stored searches through `walls`,
 #                builds and tests the Rust crate
 # make compare   drives the original Rust and the port from the same values and compares everything after every call; SEED=n for others
 # make bench     times the original Rust and the port on the same inputs; BENCH=--markdown prints the rows of docs/PERFORMANCE.md's table
@@ -14,31 +14,24 @@
 #                and runs compare's own tests
 # make routes    runs the proved search for a route beside its rule computed another way
 
-KIT = rattle-kit-5b-plain logic 097e4c862dff5811
+KIT = rattle-kit-13f logic dac8208d650f15bf
 
-.PHONY: test kit tidy walks run try edits times worked current bindings compare bench answers stored routes
+.PHONY: test kit tidy run try edits times worked current lib bindings compare bench answers stored routes
 
-# What is run after rt ci says nothing where it holds: its count stays the last line. rt proves the crates of one level at a time, and
-# tries edits, RT_JOBS of them beside each other, and waits for the slowest of these: three on two processors leave neither idle for long.
+# What is run after the gate says nothing where it holds: its count stays the last line.
 test: kit current tidy
-	@RT_JOBS=$${RT_JOBS:-3} rt ci
-	@tests/failed_read target/bin/drive target/bin/program_worked target/bin/program_replay
+	@tools/gate
+	@for name in drive program_worked program_replay; do programs="$$programs crates/$$name/out/$$name"; done; tests/failed_read $$programs
 
 kit:
 	@found=$$(rt version); test "$$found" = "$(KIT)" || echo "note: proved with '$(KIT)'; the kit at hand is '$$found'"
 
-# what no prover sees: the lists, the layout of the sources, and that the walks are those that tools/walks writes
+# what no prover sees: the lists and the layout of the sources
 tidy:
-	@command -v python3 > /dev/null || { echo "make test: python3 is not at hand, so the walks cannot be compared"; exit 1; }
-	@tools/walks --check
 	@tools/deps
 	@tools/layout
 	@tools/believed
 	@tools/wrong
-
-walks:
-	@command -v python3 > /dev/null || { echo "make walks: python3 is not at hand"; exit 1; }
-	@tools/walks
 
 run:
 	@tools/run "$(SHEET)"
@@ -66,9 +59,13 @@ current:
 	@{ $(ANSWERS); } | cmp - crates/program_worked/stdout
 	@echo "crates/program_worked has every sheet of sheets/ and its answer"
 
-bindings:
+lib:
+	@mkdir -p target/staticlib
+	@cd crates/walls_c && { rt lib > ../../target/staticlib/walls_c.log 2>&1 || { cat ../../target/staticlib/walls_c.log; exit 1; }; }
+	@cp crates/walls_c/out/libwalls_c.a target/staticlib/
+
+bindings: lib
 	@mkdir -p target/bindings
-	@rt staticlib walls_c > target/bindings/staticlib.log 2>&1 || { cat target/bindings/staticlib.log; exit 1; }
 	@command -v $(CC) > /dev/null || { echo "make bindings: no C compiler is at hand"; exit 1; }
 	@for name in example lent; do $(CC) -std=c11 -Wall -Wextra -pedantic -Werror -I bindings bindings/c/$$name.c target/staticlib/libwalls_c.a -o target/bindings/$$name || exit 1; done
 	@target/bindings/example > target/bindings/stdout && cmp target/bindings/stdout bindings/c/stdout && cat bindings/c/stdout
@@ -78,16 +75,14 @@ bindings:
 	@cd bindings/rust && cargo build --quiet --offline --release --examples && cargo test --quiet --offline
 	@cd bindings/rust && for name in narrow_ramp broad_valley nearest_first; do cargo run --quiet --offline --release --example $$name || exit 1; done
 
-compare:
+compare: lib
 	@command -v cargo >/dev/null || { echo "make compare: cargo is not at hand, so the original Rust cannot be run"; exit 1; }
 	@test -f compare/original/walls/search.rs || { echo "make compare: the original Rust is not at hand"; exit 1; }
-	@rt staticlib walls_c > /dev/null 2>&1 || { echo "make compare: rt staticlib walls_c failed"; exit 1; }
 	@cd compare/port && mkdir -p target && if cargo run --quiet --release --offline -- $(SEED) > target/stdout; then cat target/stdout; else cat target/stdout; exit 1; fi
 	@test -n "$(SEED)" || { cmp compare/port/target/stdout compare/port/stdout && echo "the counts are those of compare/port/stdout"; }
 
-bench:
+bench: lib
 	@command -v cargo >/dev/null || { echo "make bench: cargo is not at hand, so the original Rust cannot be run"; exit 1; }
-	@rt staticlib walls_c > /dev/null 2>&1 || { echo "make bench: the static library walls_c could not be made"; exit 1; }
 	@cd compare/bench && cargo run --quiet --release --offline --bin bench -- $(BENCH)
 
 answers:
@@ -101,5 +96,7 @@ stored:
 
 routes:
 	@command -v cargo >/dev/null || { echo "make routes: cargo is not at hand"; exit 1; }
-	@rt staticlib route_c > /dev/null 2>&1 || { echo "make routes: rt staticlib route_c failed"; exit 1; }
+	@mkdir -p target/staticlib
+	@cd crates/route_c && rt lib > /dev/null 2>&1 || { echo "make routes: rt lib failed in crates/route_c"; exit 1; }
+	@cp crates/route_c/out/libroute_c.a target/staticlib/
 	@cd compare/routes && mkdir -p target && cargo run --quiet --release --offline > target/stdout && cmp target/stdout stdout && cat stdout

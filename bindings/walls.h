@@ -1,6 +1,6 @@
 /* The wall search of a map planner, as proved C functions: prepare, cover, lift, begin, step, read, judge, rank, closer.
  *
- * Build the archive with `rt staticlib walls_c`, and link target/staticlib/libwalls_c.a. bindings/c/example.c is a whole program.
+ * Build the archive with `make lib`, and link target/staticlib/libwalls_c.a. bindings/c/example.c is a whole program.
  *
  * A planner prepares the mover to keep out, and the mover to let pass if there is one; begins a search; steps it, in any portions,
  * until its reason is no longer Running; and reads the walls from the layouts area. Judging tells what a selection comes to.

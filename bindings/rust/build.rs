@@ -1,4 +1,4 @@
-//! Links `libwalls_c.a`, which `rt staticlib walls_c` writes to `target/staticlib` of the repository.
+//! Links `libwalls_c.a`, which `make lib` writes to `target/staticlib` of the repository.
 //! `HITROVZEN_LIB` names another archive, or the folder that holds it.
 
 use std::{
@@ -15,7 +15,7 @@ fn main() {
     println!("cargo:rerun-if-changed={}", archive.display());
     if !archive.is_file() {
         eprintln!("hitrovzen: there is no archive at {}", archive.display());
-        eprintln!("hitrovzen: run `rt staticlib walls_c` at the root of the repository, or set HITROVZEN_LIB to {ARCHIVE} or to its folder");
+        eprintln!("hitrovzen: run `make lib` at the root of the repository, or set HITROVZEN_LIB to {ARCHIVE} or to its folder");
         exit(1);
     }
     let folder = archive.parent().unwrap_or(Path::new("."));
