@@ -1,16 +1,13 @@
 -- Signed 64-bit numbers as the machine holds them: where they are small, what is read back of a number, a sum or a product is the integers' own.
 use mathlib.Core.Path.{◌≡◌, ap, ap₂, ◌∙◌}
-use Prim.Native.Nat.{ℕ, ◌+◌, ◌*◌, ◌≤◌, ◌<◌}
+use Prim.Native.Nat.{ℕ, ◌*◌, ◌≤◌, ◌<◌}
 use native.Mathlib.Nat.{le_refl}
 use native.Mathlib.Omega.{arith}
-use lib.Dec.{T}
 use lib.IntN.{ℤ, pos, nat_abs, ◌+ℤ◌, ◌-ℤ◌, ◌*ℤ◌}
-use lib.Signed.{non_neg}
 use mir.Syntax.{w32, w64}
-use mir.Val.{Fits, SFits, to_z, of_z}
+use mir.Val.{SFits, to_z, of_z}
 use mir.Facts.{to_z-of_z, to_z_pos, sfits_widen}
-use Rattle.base_laws.specs.Ints.{up, dn}
-use Rattle.base_laws.proofs.Ints.{add_parts, minus_parts, sfits_parts, parts_sfits}
+use Rattle.base_laws.proofs.Ints.{minus_parts, sfits_parts, parts_sfits}
 use Rattle.base_laws.proofs.Magnitudes.{abs_parts, abs_add, abs_minus, abs_mul_le, square_pos, fits_i64}
 use Rattle.rule_ranks.specs.declared.Vector.{Vector}
 
@@ -30,7 +27,7 @@ read_nat n h = to_z_pos w64 (omega arith)
 
 -- one of 32 bits
 pub read_i32 : (z : ℤ) → SFits w32 z → word (to_z w32 (of_z w32 z)) ≡ z
-read_i32 z h = ap word (to_z-of_z h) ∙ to_z-of_z (sfits_widen tt h)
+read_i32 z h = ap word (to_z-of_z h) ∙ to_z-of_z {w = w64} (sfits_widen {w = w32} {w' = w64} {z = z} tt h)
 
 -- ---- products of factors up to 2^28
 module _ (a b : ℤ) (h : nat_abs a ≤ 268435456) (k : nat_abs b ≤ 268435456) where

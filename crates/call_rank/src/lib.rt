@@ -1,4 +1,6 @@
 // The distance of a placement from the entrance, squared: `footprint_center_distance_rank` with its remainder, and which of two is closer.
+#![tactic(auto)]
+
 ghost use Rattle.std.specs.Prelude.{◌≡◌, true, ◌≤◌, pos, nat_abs, ◌+ℤ◌, ◌-ℤ◌, ◌*ℤ◌};
 ghost use Rattle.rule_ranks.specs.Measures.{square, squared_length, dot, cross, segment, from_first, beside_end, measure_of};
 ghost use Rattle.ground_rects.specs.Windows.{size_fits};
