@@ -1,3 +1,2 @@
-#![tactic(auto)]
-
 // Words for lists and laws that several crates cite. No code.
+#![tactic(auto)]

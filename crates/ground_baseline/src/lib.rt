@@ -1,7 +1,8 @@
 // What terrain and obstacles block: the counts of a window laid with rectangles, and a mover's baseline read off them.
 #![tactic(auto)]
 
-ghost use Rattle.std.specs.Prelude.{◌≡◌, true, ◌&&◌, ◌||◌, List, [], ◌∷◌, ◌++◌, ℕ, ◌+◌, ◌*◌, ◌<◌, ◌≤◌, leb, ℤ, pos, length, drop, replicate};
+ghost use Rattle.std.specs.Prelude.{◌≡◌, true, ◌&&◌, ◌||◌, ℕ, ◌+◌, ◌*◌, ◌<◌, ◌≤◌, leb, ℤ, pos};
+ghost use Rattle.std.specs.Prelude.{List, [], ◌∷◌, ◌++◌, length, drop, replicate};
 ghost use Rattle.std.specs.Int.Signed.{le_z, lt_z};
 ghost use Rattle.base_laws.specs.Lists.{all_of};
 ghost use Rattle.base_laws.specs.Ints.{up};

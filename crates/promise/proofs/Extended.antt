@@ -79,7 +79,8 @@ reads_route a x h k e =
 
 -- ---- searches laid out
 module _ (table : List ℤ) (fits : table_fits table ≡ true) (i : Inputs) where
-  module _ (l m : Limits) (s t : State) (g : Good (board_of (steps_of table) i) (plan_of (steps_of table) i l) s) (d : Good (board_of (steps_of table) i) (plan_of (steps_of table) i m) t) (a b : Store) where
+  module _ (l m : Limits) (s t : State) (g : Good (board_of (steps_of table) i) (plan_of (steps_of table) i l) s)
+      (d : Good (board_of (steps_of table) i) (plan_of (steps_of table) i m) t) (a b : Store) where
     laid_extends : Grows s t → BeginsWith (shown table fits i m t b) (shown table fits i l s a)
     unfolding record_of route_at
     laid_extends w =

@@ -87,7 +87,8 @@ ordered : RouteAmong original_steps [] 4 7 3 (4 ∷ 5 ∷ 6 ∷ 7 ∷ [])
     × RouteAmong diagonals_first (5 ∷ []) 4 7 4 (4 ∷ 8 ∷ 13 ∷ 10 ∷ 7 ∷ []) ((4 ∷ 8 ∷ 9 ∷ 10 ∷ 7 ∷ []) ∷ (4 ∷ 0 ∷ 1 ∷ 2 ∷ 7 ∷ []) ∷ [])
     × RouteAmong original_steps [] 4 4 0 (4 ∷ []) []
     × RouteAmong diagonals_first [] 4 4 0 (4 ∷ []) []
-unfolding route_by ways_by walks_of open_but window_edges edges_from edge_by sides_from inside centre eq_z eight_steps original_steps diagonals_first steps_of step_by any_of all_of select flat span below member
+unfolding route_by ways_by walks_of open_but window_edges edges_from edge_by sides_from inside centre eq_z eight_steps original_steps
+    diagonals_first steps_of step_by any_of all_of select flat span below member
     neighbours known onward discover sweep search_from any_route nodes_of route
 ordered = ((refl, refl), (refl, refl), (refl, refl), (refl, refl), (refl, refl), (refl, refl))
 
@@ -95,7 +96,8 @@ ordered = ((refl, refl), (refl, refl), (refl, refl), (refl, refl), (refl, refl),
 cornered : (route_by original_steps 4 4 (1 ∷ 4 ∷ []) 0 5 ≡ none) × (ways_by original_steps (1 ∷ 4 ∷ []) 0 5 4 ≡ [])
     × (route_by original_steps 4 4 (4 ∷ []) 4 4 ≡ none) × (ways_by original_steps (4 ∷ []) 4 4 4 ≡ [])
     × (route_by original_steps 4 4 (4 ∷ []) 4 7 ≡ none) × (ways_by original_steps (4 ∷ []) 4 7 4 ≡ [])
-unfolding route_by ways_by walks_of open_but window_edges edges_from edge_by sides_from inside centre eq_z original_steps steps_of step_by any_of all_of select flat span below member neighbours known onward
+unfolding route_by ways_by walks_of open_but window_edges edges_from edge_by sides_from inside centre eq_z original_steps steps_of step_by
+    any_of all_of select flat span below member neighbours known onward
     discover sweep search_from any_route nodes_of route
 cornered = (refl, refl, refl, refl, refl, refl)
 
@@ -106,7 +108,8 @@ unopened w = false≢true w.start_open
 
 -- the picture of RULES 2.6: a window of 5 × 4
 picture : (route_by original_steps 5 4 [] 0 19 ≡ some (0 ∷ 1 ∷ 7 ∷ 13 ∷ 19 ∷ [])) × (route_by diagonals_first 5 4 [] 0 19 ≡ some (0 ∷ 6 ∷ 12 ∷ 18 ∷ 19 ∷ []))
-unfolding route_by open_but window_edges edges_from edge_by sides_from inside centre eq_z original_steps diagonals_first steps_of step_by any_of all_of select member neighbours known onward discover sweep
+unfolding route_by open_but window_edges edges_from edge_by sides_from inside centre eq_z original_steps diagonals_first steps_of step_by
+    any_of all_of select member neighbours known onward discover sweep
     search_from any_route nodes_of route
 picture = (refl, refl)
 
@@ -128,7 +131,8 @@ routes : (route_in 2 2 [] 0 3 ≡ some (0 ∷ 3 ∷ []))
     × (route_in 3 3 (4 ∷ []) 4 4 ≡ none)
     × (route_in 3 3 (3 ∷ []) 3 5 ≡ none)
     × (route_in 3 3 (5 ∷ []) 3 5 ≡ none)
-unfolding route_in open_but window_edges edges_from edge_by sides_from inside centre eq_z eight_steps step_by any_of all_of select member neighbours known onward discover sweep search_from any_route nodes_of route
+unfolding route_in open_but window_edges edges_from edge_by sides_from inside centre eq_z eight_steps step_by any_of all_of select member
+    neighbours known onward discover sweep search_from any_route nodes_of route
 routes = (refl, refl, refl, refl, refl, refl, refl, refl, refl, refl)
 
 -- How many centres have a route from the start: open ground; a diagonal step past one blocked side and between two; a wall, from either side of it;
@@ -139,7 +143,8 @@ reach_in width height shut start = reach_count (window_edges width height eight_
 reach : reach_in 3 3 [] 4 ∷ reach_in 2 2 (1 ∷ []) 0 ∷ reach_in 2 2 (1 ∷ 2 ∷ []) 0 ∷ reach_in 3 3 (1 ∷ 4 ∷ 7 ∷ []) 3 ∷ reach_in 4 1 (1 ∷ []) 0 ∷ reach_in 4 1 (1 ∷ []) 3
     ∷ reach_in 3 3 (4 ∷ []) 4 ∷ reach_in 1 1 [] 0 ∷ []
     ≡ 9 ∷ 3 ∷ 1 ∷ 3 ∷ 1 ∷ 2 ∷ 0 ∷ 1 ∷ []
-unfolding reach_in open_but window_edges edges_from edge_by sides_from inside centre eq_z eight_steps step_by any_of all_of select is_some span below member neighbours known onward discover sweep search_from
+unfolding reach_in open_but window_edges edges_from edge_by sides_from inside centre eq_z eight_steps step_by any_of all_of select is_some
+    span below member neighbours known onward discover sweep search_from
     any_route nodes_of route reach_count
 reach = refl
 

@@ -208,7 +208,8 @@ lists_popped g l ls a l₀ k m h deep ek em e =
     (let q = suc-mul (length ls) n in omega arith)
 
 -- the set has been evaluated before
-pub record_seen : (n : ℕ) (ls : List Extensions) (v : List (List ℕ)) (ys : List Layout) (r : Record) → r ≡ record_of n (held Running true ls v ys) → seen_rec r ≡ record_of n (held Running false ls v ys)
+pub record_seen : (n : ℕ) (ls : List Extensions) (v : List (List ℕ)) (ys : List Layout) (r : Record) → r
+    ≡ record_of n (held Running true ls v ys) → seen_rec r ≡ record_of n (held Running false ls v ys)
 unfolding record_of
 record_seen n ls v ys r e = ap (λ (q : Record). seen_rec q) e
 

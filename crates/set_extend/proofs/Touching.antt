@@ -85,7 +85,9 @@ module _ (collision : Rect) (m : Bounds) (w : Rect) (s : Span) (some : nonempty 
     unfolding edge_by sides_from centre
     at_sides u v hu hv e k to =
         ap (any_of keeps) (ap (sides_of edges u) (sym to) ∙ sides_of_edge edges u (window_one_edge (width w) (height w) steps once u) e k ∙ ap (λ (x : Edge). x.sides) (sym b.is))
-        ∙ ap₂ (λ (p q : ℤ). any_of keeps (elim (eq_z dx (pos 0) || eq_z dy (pos 0)) [ true ↦ [] | false ↦ centre (width w) (height w) p y ∷ centre (width w) (height w) x q ∷ [] ])) (sym column) (sym row)
+        ∙ ap₂ (λ (p q : ℤ). any_of keeps
+        (elim (eq_z dx (pos 0) || eq_z dy (pos 0))
+        [ true ↦ [] | false ↦ centre (width w) (height w) p y ∷ centre (width w) (height w) x q ∷ [] ])) (sym column) (sym row)
         ∙ any_two keeps (u / width w * width w + v % width w) (v / width w * width w + u % width w) (eq_z dx (pos 0) || eq_z dy (pos 0))
         ∙ ap₂ ◌&&◌
         (neither_nor (eq_z dx (pos 0)) (eq_z dy (pos 0)) ∙ ap₂ (λ (p q : Bool). not p && not q) (still (u % width w) (v % width w) dx column) (still (u / width w) (v / width w) dy row))

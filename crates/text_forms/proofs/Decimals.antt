@@ -27,7 +27,8 @@ module _ where
   enough (suc k) zero n h e = absurd (omega arith)
   enough (suc k) (suc m) n h e = go (ltb n 10) refl (λ p q. enough k m (n / 10) p q)
     where
-      go : (t : Bool) → ltb n 10 ≡ t → (n / 10 < k → n / 10 < m → decimal_by k (n / 10) ≡ decimal_by m (n / 10)) → last_digit t n (λ _. decimal_by k (n / 10)) ≡ last_digit t n (λ _. decimal_by m (n / 10))
+      go : (t : Bool) → ltb n 10 ≡ t → (n / 10 < k → n / 10 < m → decimal_by k (n / 10) ≡ decimal_by m (n / 10))
+          → last_digit t n (λ _. decimal_by k (n / 10)) ≡ last_digit t n (λ _. decimal_by m (n / 10))
       go true q ih = refl
       go false q ih = ap (λ (l : List ℕ). l ++ ((48 + n % 10) ∷ [])) (ih (omega (arith, tenth n (ltb-false n 10 q))) (omega (arith, tenth n (ltb-false n 10 q))))
 

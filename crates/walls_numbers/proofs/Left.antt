@@ -21,7 +21,24 @@ use Rattle.rule_calls.specs.Areas.{Work, Store, store_in}
 use Rattle.rule_calls.specs.Calls.{Preparation, Prepared, prepare_call, After, no_record, begin_over, begin_call, step_over, step_call, read_checks, AfterJudge, judge_call}
 use Rattle.call_read.specs.Told.{number_in, index_in}
 use Rattle.walls_numbers.specs.Numbers.{record_from, numbers_after, judged_answer, judged_index, judged_verdict, judged_ground}
-use Rattle.walls_numbers.specs.Left.{prepare_on, changed_by, cover_on, lift_on, fifty, Left, begin_checks_on, step_checks_on, turned, left_by, begin_on, step_on, read_checks_on, place_of, read_on, judge_on}
+use Rattle.walls_numbers.specs.Left.{
+  prepare_on,
+  changed_by,
+  cover_on,
+  lift_on,
+  fifty,
+  Left,
+  begin_checks_on,
+  step_checks_on,
+  turned,
+  left_by,
+  begin_on,
+  step_on,
+  read_checks_on,
+  place_of,
+  read_on,
+  judge_on,
+}
 use Rattle.walls_numbers.specs.Lent.{lent_of, record_in, numbers_left}
 use Rattle.walls_numbers.proofs.Fifty.{left_laid}
 use Rattle.walls_numbers.proofs.Lent.{all_lent, lent_is, begin_fifty, begin_same, step_read, step_same, read_read, read_same}

@@ -1,3 +1,4 @@
+-- The answers to the goals of `call_checks::first_misplaced`.
 use mathlib.Core.Path.{sym, ◌∙◌}
 use native.Mathlib.Omega.{arith}
 use borrow.Author.Count.{below_more}

@@ -1,3 +1,4 @@
+-- The answers to the goals of `call_checks::groups_fit`.
 use mathlib.Core.Path.{sym}
 use native.Mathlib.Omega.{arith}
 use Rattle.call_checks.proofs.Grouped.{groups_many, slots_none, slots_many, none_summed, one_summed, all_summed}

@@ -62,4 +62,5 @@ pub returns : goal.returns
 unfolding routes_pass
 returns c =
     let a = c.args in
-    sym (sym (adds_none a.cap (take a.count a.routes)) ∙ c.loop-i.invariant.is ∙ adds_end a.cap c.loop-i.sum (take a.count a.routes) c.loop-i.i (omega (arith, c.loop-i.invariant.size, c.loop-i-test.false)))
+    sym (sym (adds_none a.cap (take a.count a.routes)) ∙ c.loop-i.invariant.is
+    ∙ adds_end a.cap c.loop-i.sum (take a.count a.routes) c.loop-i.i (omega (arith, c.loop-i.invariant.size, c.loop-i-test.false)))

@@ -35,7 +35,6 @@ turned f at width v₀ v x b h r e t = record {
       let j = t.fill n u k l i in
       let q : at + x + 1 ≡ at + (x + 1) = omega arith in
       subst (λ (o : ℕ). Filling f n u (set v (at + x) b) o) q (filling_more f n u l v (at + x) b (omega arith) e j);
-
 }
 
 -- the byte at column x of row y

@@ -70,11 +70,10 @@ pub loop-i-smaller : goal.loop-i-smaller
 loop-i-smaller c = omega (arith, c.loop-i-test.true)
 
 pub loop-i-preserved : goal.loop-i-preserved
-loop-i-preserved c =
-    (
-      omega (arith, c.loop-i-test.true),
-      below_more _ _ c.loop-i.invariant.1 (ap nonempty (sym c.rect_at-r.ensures) ∙ sym c.nonempty.ensures ∙ c.if-not-nonempty.false),
-    )
+loop-i-preserved c = (
+  omega (arith, c.loop-i-test.true),
+  below_more _ _ c.loop-i.invariant.1 (ap nonempty (sym c.rect_at-r.ensures) ∙ sym c.nonempty.ensures ∙ c.if-not-nonempty.false),
+)
 
 pub returns : goal.returns
 unfolding fits

@@ -25,13 +25,12 @@ pub rect_at-r-requires : goal.rect_at-r-requires
 rect_at-r-requires c = omega (arith, c.loop-i-test.true)
 
 pub stamp_expanded-requires : goal.stamp_expanded-requires
-stamp_expanded-requires c =
-    (
-      c.requires.1.0,
-      still c.args.counts.now c.args.obstacles.now c.args.window c.args.mover
-          c.requires.0 c.loop-i.counts c.loop-i.i c.loop-i.invariant (omega (arith, c.requires.0, c.loop-i-test.true))
-          c.requires.1.1,
-    )
+stamp_expanded-requires c = (
+  c.requires.1.0,
+  still c.args.counts.now c.args.obstacles.now c.args.window c.args.mover
+      c.requires.0 c.loop-i.counts c.loop-i.i c.loop-i.invariant (omega (arith, c.requires.0, c.loop-i-test.true))
+      c.requires.1.1,
+)
 
 pub loop-i-smaller : goal.loop-i-smaller
 loop-i-smaller c =

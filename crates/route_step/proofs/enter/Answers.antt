@@ -45,17 +45,20 @@ returns-then-not-passes c =
 
 pub offset_bounds-queue-tail : goal.offset_bounds-queue-tail
 offset_bounds-queue-tail c =
-    let h = room_new _ _ _ _ _ _ _ c.requires.search_room (moved_below c.moved-right.ensures c.if-right-eq0.false) (moved_below c.moved-down.ensures c.if-down-eq0.false) c.if-predecessors-v-ne0.false in
+    let h = room_new _ _ _ _ _ _ _ c.requires.search_room (moved_below c.moved-right.ensures c.if-right-eq0.false)
+    (moved_below c.moved-down.ensures c.if-down-eq0.false) c.if-predecessors-v-ne0.false in
     omega (arith, c.requires.window.small)
 
 pub bounds-queue-tail : goal.bounds-queue-tail
 bounds-queue-tail c =
-    let h = room_new _ _ _ _ _ _ _ c.requires.search_room (moved_below c.moved-right.ensures c.if-right-eq0.false) (moved_below c.moved-down.ensures c.if-down-eq0.false) c.if-predecessors-v-ne0.false in
+    let h = room_new _ _ _ _ _ _ _ c.requires.search_room (moved_below c.moved-right.ensures c.if-right-eq0.false)
+    (moved_below c.moved-down.ensures c.if-down-eq0.false) c.if-predecessors-v-ne0.false in
     omega (arith, c.requires.search_room.queue_room)
 
 pub overflow_add-result : goal.overflow_add-result
 overflow_add-result c =
-    let h = room_new _ _ _ _ _ _ _ c.requires.search_room (moved_below c.moved-right.ensures c.if-right-eq0.false) (moved_below c.moved-down.ensures c.if-down-eq0.false) c.if-predecessors-v-ne0.false in
+    let h = room_new _ _ _ _ _ _ _ c.requires.search_room (moved_below c.moved-right.ensures c.if-right-eq0.false)
+    (moved_below c.moved-down.ensures c.if-down-eq0.false) c.if-predecessors-v-ne0.false in
     omega (arith, c.requires.window.small)
 
 pub returns : goal.returns

@@ -1,3 +1,4 @@
+-- The answers to the goals of `route_step::expand`.
 use Prim.Native.Nat.{◌+◌}
 use lib.IntN.{pos}
 use lib.ListN.{get_or}
@@ -12,7 +13,14 @@ pub loop-k-init : goal.loop-k-init
 loop-k-init c = expanding_begin _ _ _ _ _ _ _ _ c.requires.search_room
 
 pub enter-t-requires : goal.enter-t-requires
-enter-t-requires c = record { window = c.requires.window; x_lt_width = (column_below _ _ _ c.requires.u_bound, row_below _ _ _ c.requires.u_bound); u_bound = c.requires.u_bound; search_room = c.loop-k.invariant.room }
+enter-t-requires c = record {
+  window = c.requires.window;
+  x_lt_width =
+      (column_below _ _ _ c.requires.u_bound, row_below _ _ _ c.requires.u_bound);
+  u_bound = c.requires.u_bound;
+  search_room =
+      c.loop-k.invariant.room;
+}
 
 pub loop-k-preserved : goal.loop-k-preserved
 loop-k-preserved c =

@@ -1,3 +1,4 @@
+-- The answers to the goals of `route_table::table_fits`.
 use Prim.Native.Nat.{◌+◌}
 use native.Mathlib.Omega.{arith}
 use lib.IntN.{pos}

@@ -1,3 +1,4 @@
+-- The answers to the goals of `route_table::times_in`.
 use Prim.Native.Nat.{◌+◌, ◌<◌, ◌^◌}
 use mathlib.Core.Path.{◌≡◌, sym, ap, ◌∙◌}
 use native.Mathlib.Omega.{arith}
@@ -32,7 +33,10 @@ loop-k-preserved c =
     rw (back w32 c.args.x c.ranges.x.sfits, back w32 c.args.y c.ranges.y.sfits) at c.loop-k.invariant in
     rw (back w32 c.args.x c.ranges.x.sfits, back w32 c.args.y c.ranges.y.sfits)
     (elim c.if-steps-k.branch [
-      | then-steps-k+then-steps-k-2 w ↦ rw w.n-is (counted_hit _ _ _ _ i inside (met c.args.x c.args.y a b (same a c.args.x (search rules) c.ranges.x.sfits w.if-steps-k.true) (same b c.args.y (search rules) c.ranges.y.sfits w.if-steps-k-2.true)))
+      | then-steps-k+then-steps-k-2 w
+          ↦ rw w.n-is (counted_hit _ _ _ _ i inside
+          (met c.args.x c.args.y a b (same a c.args.x (search rules) c.ranges.x.sfits w.if-steps-k.true)
+          (same b c.args.y (search rules) c.ranges.y.sfits w.if-steps-k-2.true)))
       | then-steps-k+else-steps-k-2 w ↦ rw w.n-is (counted_miss _ _ _ _ i inside (missed_y c.args.x c.args.y a b (λ e. w.if-steps-k-2.false (ap (of_z w32) e))))
       | else-steps-k w ↦ rw w.n-is (counted_miss _ _ _ _ i inside (missed_x c.args.x c.args.y a b (λ e. w.if-steps-k.false (ap (of_z w32) e))))
     ])

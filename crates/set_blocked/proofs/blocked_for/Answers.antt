@@ -1,3 +1,4 @@
+-- The answers to the goals of `set_blocked::blocked_for`.
 use mathlib.Core.Path.{sym, ap, ◌∙◌}
 use mathlib.Core.List.{List}
 use Prim.Native.Nat.{ℕ}

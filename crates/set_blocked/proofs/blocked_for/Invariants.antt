@@ -30,7 +30,8 @@ module _ {w : Rect} {edges : List ℤ} {m : Bounds} {base set : List ℕ} {k : �
     is = p.is ∙ ap (λ (s : List ℕ). blocked_map (mover_in w edges m base) (centres w) s) (rw (add-one, e) (sym (without_at_skip k set)));
   }
 
-  pub laid : suc j ≤ length set → (j ≡ k → ⊥) → (r : Rect) → r ≡ rect_at edges (8 * get_or set j 0 + 4) → (cells' : List ℕ) → CollisionStamped w r m cells cells' → Passed w edges m base set k cells' (j + 1)
+  pub laid : suc j ≤ length set → (j ≡ k → ⊥) → (r : Rect) → r ≡ rect_at edges (8 * get_or set j 0 + 4) → (cells' : List ℕ)
+      → CollisionStamped w r m cells cells' → Passed w edges m base set k cells' (j + 1)
   laid h ne r q cells' t = record {
     upto = omega arith;
     is =

@@ -1,3 +1,4 @@
+-- The answers to the goals of `set_blocked::copy_base`.
 use native.Mathlib.Omega.{arith}
 use lib.ListN.{length}
 use Rattle.base_laws.proofs.Fill.{filling_none, filling_more, filling_all}

@@ -1,3 +1,4 @@
+-- The answers to the goals of `set_extend::candidate_touches_witness`.
 use mathlib.Core.Path.{◌≡◌, refl, sym, ap, ◌∙◌}
 use Prim.Native.Nat.{ℕ}
 use native.Mathlib.Omega.{arith}

@@ -1,3 +1,4 @@
+-- The answers to the goals of `set_extend::extensions`.
 use mathlib.Core.Path.{◌≡◌, sym, ◌∙◌}
 use mathlib.Core.List.{List}
 use native.Mathlib.Omega.{arith}

@@ -38,7 +38,8 @@ decreases-loop-j l = length l.set - l.j
 
 abbrev pub invariant-look : goal.invariant-look
 invariant-look l =
-    Looking (places_in l.n l.groups l.numbers l.edges) l.set (λ (steps : List Step). Trail l.window steps (take l.count l.route)) (touch l.edges l.mover l.window (take l.count l.route)) l.initial.list l.list l.k l.i
+    Looking (places_in l.n l.groups l.numbers l.edges) l.set (λ (steps : List Step). Trail l.window steps (take l.count l.route))
+    (touch l.edges l.mover l.window (take l.count l.route)) l.initial.list l.list l.k l.i
 
 abbrev pub decreases-look : goal.decreases-look
 decreases-look l = l.n - l.i

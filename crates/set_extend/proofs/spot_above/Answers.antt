@@ -1,3 +1,4 @@
+-- The answers to the goals of `set_extend::spot_above`.
 use native.Mathlib.Omega.{arith}
 use Rattle.set_extend.proofs.Spots.{row_above, up_more, up_found}
 use Rattle.set_extend.proofs.spot_above.Goals as goal

@@ -1,3 +1,4 @@
+-- The answers to the goals of `set_extend::spot_below`.
 use native.Mathlib.Omega.{arith}
 use Rattle.set_extend.proofs.Spots.{down_start, down_more, down_few, down_found}
 use Rattle.set_extend.proofs.spot_below.Goals as goal

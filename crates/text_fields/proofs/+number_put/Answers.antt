@@ -1,3 +1,4 @@
+-- The answers to the goals of `text_fields::+number_put`.
 use Rattle.std.proofs.Common.{◌<◌, ◌≤◌, ◌/◌, arith}
 use native.Mathlib.Nat.{div-lt_self}
 use Rattle.text_forms.proofs.Puts.{put_digit, put_more, put_length, one_long, front_shorter, last_place}

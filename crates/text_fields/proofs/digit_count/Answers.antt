@@ -1,3 +1,4 @@
+-- The answers to the goals of `text_fields::digit_count`.
 use native.Mathlib.Nat.{div-lt_self}
 use native.Mathlib.Omega.{arith}
 use Rattle.text_forms.proofs.Puts.{counted_start, counted_more, counted_done}

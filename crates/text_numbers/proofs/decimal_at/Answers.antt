@@ -1,3 +1,4 @@
+-- The answers to the goals of `text_numbers::decimal_at`.
 use native.Mathlib.Omega.{arith}
 use Rattle.text_forms.proofs.Places.{taking_first, taking_next, taking_stops, taking_ends}
 use Rattle.text_numbers.proofs.decimal_at.Goals as goal
