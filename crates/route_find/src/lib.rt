@@ -1,4 +1,6 @@
 // The search for a route over a map of centres, in lent areas.
+#![tactic(auto)]
+
 ghost use Rattle.std.specs.Prelude.{◌≡◌, ℕ, ◌+◌, ◌*◌, Bool, true, pos, nat_abs, ◌-ℤ◌};
 ghost use Rattle.std.specs.Int.Signed.{le_z};
 ghost use Rattle.rule_routes.specs.Edges.{steps_of, window_edges};
