@@ -1,8 +1,8 @@
 # make test      the gate: proves every crate from nothing, tries the must-fail edits, runs the programs, hands them inputs that do not arrive whole
-# make run       answers a drive sheet: make run SHEET=file; proves and builds the program first, and tells how far it is
+# make run       answers a drive sheet: make run SHEET=file; proves and builds the program first
 # make try       answers a drive sheet within seconds, from a build of the same code that is not proved: make try SHEET=file
 # make edits     tries the must-fail edits of one crate alone: make edits CRATE=name
-# make times     proves every crate from nothing, in a copy: each crate's seconds, the total, what its edits cost; LOG=file reads a gate's output
+# make times     proves every crate from nothing, in a copy: each crate's seconds, the total, what its edits cost
 # make worked    writes what `program_worked` is run on, and what it must print, from sheets/
 # make lib       proves the C functions and makes their archive, target/staticlib/libwalls_c.a
 # make bindings  makes that archive, builds and runs the C examples, plays stored searches through `walls`,
@@ -43,7 +43,7 @@ edits:
 	@tools/edits $(CRATE)
 
 times:
-	@tools/times $(LOG)
+	@tools/times
 
 # the sheets in the order of their names, each after a line with the number of its bytes; the answers in the same order
 worked current: export LC_ALL = C
