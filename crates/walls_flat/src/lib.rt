@@ -1,4 +1,6 @@
 // A lent row of placements as flat rows of numbers and edges.
+#![tactic(auto)]
+
 ghost use Rattle.std.specs.Prelude.{◌≡◌, map, ◌++◌, ◌*◌, ◌≤◌, length, take, drop};
 ghost use Rattle.base_laws.specs.Lists.{flat};
 ghost use Rattle.walls_rows.specs.Rows.{place_numbers, both_of, rows_of};
