@@ -1,4 +1,6 @@
 // Check 16, on the lists of a record.
+#![tactic(auto)]
+
 ghost use Rattle.std.specs.Prelude.{◌≡◌, ◌*◌, ◌<◌, length, take, drop};
 ghost use Rattle.base_laws.specs.Lists.{all_of, below};
 ghost use Rattle.rule_layouts.specs.Boards as boards;
