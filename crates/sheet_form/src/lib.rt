@@ -1,5 +1,7 @@
 // The drive sheet as definitions and laws: its fields, its text as a form, which texts are accepted, that a text is one sheet's at most;
 // and its numbers by name. No function: a wrong form is refused here, without the readers.
+#![tactic(auto)]
+
 use base_model::{EDGES, NUMBERS};
 
 // The refusal of a text that is no sheet.
