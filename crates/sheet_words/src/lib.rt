@@ -1,5 +1,7 @@
 // The words of a sheet as numbers: edges, rectangles, and the caps that are left once the sheet stands in its areas. Apart from the
 // readers, which look at no word.
+#![tactic(auto)]
+
 ghost use Rattle.std.specs.Prelude.{◌≡◌, ◌+◌, ◌≤◌, length, drop};
 ghost use Rattle.sheet_form.specs.Sheets.{signed_of, rect_of};
 ghost use Rattle.sheet_words.specs.Caps.{few_centres, caps_left};
