@@ -20,7 +20,7 @@ use Rattle.ground_rects.specs.Windows.{width, height, centres, window_fits}
 use Rattle.ground_rects.specs.Spans.{in_span, Clipped}
 use Rattle.ground_rects.proofs.Windows.{width_some, framed}
 use Rattle.ground_spans.specs.Changes.{SpanFits, SpanAllows, SpanHas, SpanChanged}
-use Rattle.rule_covers.specs.Covers.{AfterChange, off_centre, changed, may_change, change_checks, change_call}
+use Rattle.rule_covers.specs.Covers.{off_centre, changed, may_change, change_checks, change_call}
 use Rattle.rule_covers.proofs.Changes.{changed_length, changed_at, changed_past, may_found, may_when}
 
 module _ (w : Rect) (m : Bounds) (r : Rect) (may : ℕ → Bool) (change : ℕ → ℕ) (counts : List ℕ) where

@@ -1,4 +1,6 @@
 // Covering a baseline with a rectangle, and lifting it off: the counts of the centres that it reaches become one more, or one less.
+#![tactic(auto)]
+
 ghost use Rattle.std.specs.Prelude.{◌≡◌};
 ghost use Rattle.base_model.specs.Answers.{reply_of};
 ghost use Rattle.ground_spans.specs.Changes.{made, allows};
