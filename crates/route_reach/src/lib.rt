@@ -1,4 +1,6 @@
 // How many centres a mover can reach from a start.
+#![tactic(auto)]
+
 ghost use Rattle.std.specs.Prelude.{◌≡◌, ◌*◌};
 ghost use Rattle.rule_routes.specs.Edges.{steps_of, window_edges};
 ghost use Rattle.rule_routes.specs.Routes.{reach_count};
