@@ -1,5 +1,7 @@
 // Lines read by their pattern: one, one or none, or as many as stand there. Every public function answers every input; none has a
 // `requires`.
+#![tactic(auto)]
+
 ghost use Rattle.std.specs.Prelude.{◌≡◌, true, ◌≤◌, length};
 ghost use Rattle.text_forms.specs.Patterns.{fields, repeats};
 ghost use Rattle.text_read.specs.Answers.{LineRead, RowsRead, OptionalRead};
