@@ -1,4 +1,6 @@
 // Check 16, on a record and the areas of its search.
+#![tactic(auto)]
+
 ghost use Rattle.std.specs.Prelude.{◌≡◌, List, ℕ, ◌/◌, length};
 ghost use Rattle.rule_layouts.specs.Flat.{inputs_of};
 ghost use Rattle.rule_calls.specs.RecordCheck.{record_fits};
