@@ -1,4 +1,6 @@
 // Sets as rows, lists and kept points in the areas of a search.
+#![tactic(auto)]
+
 ghost use Rattle.std.specs.Prelude.{◌≡◌, true, List, ◌∷◌, ◌++◌, map, reverse, ℕ, ◌+◌, ◌*◌, ◌≤◌, ◌<◌, pos, length, take, drop, get_or};
 ghost use Rattle.base_laws.specs.Ints.{up};
 ghost use Rattle.base_laws.specs.Lists.{any_of, same, put_in, total};
