@@ -3,25 +3,28 @@ use crate::say;
 use crate::stored::Head;
 use crate::words::MOST_NUMBERS;
 use base_model::{Answer, LAYOUTS, ROW, Record, Refusal, SLOTS};
+use std::io;
+use std::io::Write;
 
 // Prints a refusal's number, and the index that goes with 15.
-pub fn say_refusal(r: Refusal) {
-    say::number(base_model::refusal_number(r));
+pub fn say_refusal<W: Write>(out: &mut W, r: Refusal) -> io::Result<()> {
+    say::number(out, base_model::refusal_number(r))?;
     if let Refusal::PlacementInvalid(i) = r {
-        say::number(i);
+        say::number(out, i)?;
     }
+    Ok(())
 }
 
 // Prints an answer's number; it is handed back.
-pub fn say_answer(a: Answer) -> u32 {
+pub fn say_answer<W: Write>(out: &mut W, a: Answer) -> io::Result<u32> {
     match a {
         Answer::Done => {
-            say::number(0);
-            0
+            say::number(out, 0)?;
+            Ok(0)
         }
         Answer::Refused(r) => {
-            say_refusal(r);
-            base_model::refusal_number(r)
+            say_refusal(out, r)?;
+            Ok(base_model::refusal_number(r))
         }
     }
 }
@@ -45,20 +48,21 @@ fn layouts_digest(h: u32, xs: &[u32; LAYOUTS]) -> u32 {
 }
 
 // Prints a record and the digest of its rows and of the areas up to their lengths.
-pub fn show(
+pub fn show<W: Write>(
+    out: &mut W,
     rec: Record,
     head: Head,
     lists: &[u16],
     visited: &[u16],
     layouts: &[u16],
     points: &[u32],
-) {
-    say::number(rec.reason);
-    say::number(rec.evaluations);
-    say::number(rec.placements);
-    say::number(rec.layouts);
-    say::number(rec.lists);
-    say::flag(rec.pending);
+) -> io::Result<()> {
+    say::number(out, rec.reason)?;
+    say::number(out, rec.evaluations)?;
+    say::number(out, rec.placements)?;
+    say::number(out, rec.layouts)?;
+    say::number(out, rec.lists)?;
+    say::flag(out, rec.pending)?;
     let lengths = rec.lengths;
     let nexts = rec.nexts;
     let routes = rec.routes;
@@ -69,8 +73,8 @@ pub fn show(
     let d = say::words(c, points, head.points as usize);
     let e = slots_digest(d, &lengths);
     let f = slots_digest(e, &nexts);
-    say::number(layouts_digest(f, &routes));
-    say::end();
+    say::number(out, layouts_digest(f, &routes))?;
+    say::end(out)
 }
 
 // Whether prepare wrote the baseline: it did not where it refused with 1 to 6.
