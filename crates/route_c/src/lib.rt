@@ -1,4 +1,6 @@
 // `route` under a C name, for programs that compare it with another search.
+#![tactic(auto)]
+
 ghost use Rattle.std.specs.Prelude.{◌*◌};
 ghost use Rattle.rule_routes.specs.Edges.{steps_of, window_edges};
 ghost use Rattle.rule_routes.specs.Routes as routes;
