@@ -1,4 +1,6 @@
 // The centre of a window at a pixel.
+#![tactic(auto)]
+
 ghost use Rattle.std.specs.Prelude.{◌≡◌, true, ◌<◌};
 ghost use Rattle.ground_rects.specs.Windows.{centres, window_fits, in_window, centre_at};
 
