@@ -1,12 +1,12 @@
 -- A row changed byte by byte: what is still to be changed is as it was.
-use mathlib.Core.Path.{◌≡◌, refl, sym, ap, ap₂, ◌∙◌, subst}
+use mathlib.Core.Path.{◌≡◌, refl, ap, ap₂, ◌∙◌, subst}
 use mathlib.Core.List.{List, [], ◌∷◌, ◌++◌, map, append-nil}
-use Prim.Native.Nat.{ℕ, ◌+◌, ◌≤◌, ◌<◌}
+use Prim.Native.Nat.{ℕ, ◌+◌, ◌<◌}
 use native.Mathlib.Omega.{arith}
-use lib.ListN.{length, get_or, take, drop, replicate, drop_of_length-le}
+use lib.ListN.{length, get_or, replicate, drop_of_length-le}
 use lib.Seq.{take-length}
 use Rattle.base_laws.specs.Lists.{below}
-use Rattle.base_laws.specs.Fill.{over, filled, filled_from, Filling}
+use Rattle.base_laws.specs.Fill.{over, filled, Filling}
 use Rattle.base_laws.proofs.Fill.{filled_over, filled_copy}
 use Rattle.base_laws.proofs.Stores.{over_behind}
 use Rattle.base_laws.proofs.Tables.{length_table}

@@ -18,7 +18,7 @@ use Rattle.base_laws.proofs.Stores.{length_over, over_part, over_before, over_in
 use Rattle.base_laws.proofs.Tests.{all_true}
 use Rattle.ground_rects.specs.declared.Span.{Span}
 use Rattle.ground_rects.specs.Spans.{in_span}
-use Rattle.ground_spans.specs.Changes.{SpanFits, SpanAllows, SpanHas, SpanAsked, SpanChanged}
+use Rattle.ground_spans.specs.Changes.{SpanAllows, SpanHas, SpanChanged}
 
 abbrev pub in_b : ℕ → ℕ → ℕ → Bool
 in_b a b i = leb a i && ltb i b

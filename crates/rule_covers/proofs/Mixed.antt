@@ -1,11 +1,11 @@
 -- Covers and lifts mixed: move by move it is known which buildings stand, so each lift of one that stands is accepted, and each count is what it was plus those that
 -- reach it.
 use mathlib.Core.Path.{◌≡◌}
-use mathlib.Core.List.{List, [], ◌∷◌, ◌++◌}
+use mathlib.Core.List.{List}
 use Prim.Native.Nat.{ℕ}
 use Rattle.base_model.specs.declared.Rect.{Rect}
 use Rattle.rule_covers.specs.Sessions.{Building, cover_one, lift_one}
-use Rattle.rule_covers.specs.Standing.{counted, Standing, Move, covers, lifts, Moves, done, covered, lifted, move, moved, CoversAccepted, LiftsAccepted, Mixed}
+use Rattle.rule_covers.specs.Standing.{counted, Standing, Move, Moves, done, covered, lifted, move, moved, CoversAccepted, LiftsAccepted, Mixed}
 use Rattle.rule_covers.proofs.Standing.{nothing_stands, cover_stands, lift_stands}
 
 module _ (w : Rect) (counts : List ℕ) where

@@ -1,1 +1,3 @@
+#![tactic(auto)]
+
 // Routes: definitions and their theory. No code.

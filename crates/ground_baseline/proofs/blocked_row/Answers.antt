@@ -1,23 +1,14 @@
 -- The answers to the goals of `ground_baseline::blocked_row`.
-use borrow.Author.Rules.{rules}
-use mathlib.Core.Path.{◌≡◌, refl, ◌∙◌, subst}
-use mathlib.Core.Bool.{◌||◌}
-use mathlib.Core.List.{List, []}
-use Prim.Native.Nat.{ℕ, ◌+◌, ◌-◌, ◌*◌, ◌≤◌, ◌<◌}
+use mathlib.Core.Path.{◌≡◌, ◌∙◌, subst}
+use Prim.Native.Nat.{ℕ, ◌+◌, ◌*◌}
 use native.Mathlib.Omega.{arith}
-use lib.Arith.{digits_div, digits_mod}
-use lib.IntN.{ℤ, pos}
-use lib.Signed.{lt_z}
-use lib.ListN.{length, get_or, set, length-set}
+use lib.IntN.{pos}
+use lib.ListN.{get_or}
 use mir.Syntax.{w32}
 use Rattle.base_laws.specs.Fill.{Filling}
 use Rattle.base_laws.proofs.Ints.{back}
-use Rattle.base_laws.proofs.Fill.{filling_more}
-use Rattle.base_model.specs.declared.Bounds.{Bounds}
-use Rattle.ground_counts.specs.Counts.{bit}
-use Rattle.ground_baseline.specs.Baseline.{off_edge}
 use Rattle.ground_baseline.specs.Stamps.{blocked_at}
-use Rattle.ground_baseline.proofs.blocked_row.Invariants.{Turn, start, turned, byte}
+use Rattle.ground_baseline.proofs.blocked_row.Invariants.{start, turned, byte}
 use Rattle.ground_baseline.proofs.blocked_row.Goals as goal
 
 pub overflow_mul-at : goal.overflow_mul-at

@@ -1,5 +1,4 @@
 -- `ground_baseline::blocked_row` meets its contract. Before the turn at x, the centres of the row's first x columns are marked.
-use borrow.Author.Rules.{rules}
 use mathlib.Core.Path.{◌≡◌, refl, ◌∙◌, subst}
 use mathlib.Core.Bool.{◌||◌}
 use mathlib.Core.List.{List, []}
@@ -9,9 +8,7 @@ use lib.Arith.{digits_div, digits_mod}
 use lib.IntN.{ℤ, pos}
 use lib.Signed.{lt_z}
 use lib.ListN.{length, get_or, set, length-set}
-use mir.Syntax.{w32}
 use Rattle.base_laws.specs.Fill.{Filling}
-use Rattle.base_laws.proofs.Ints.{back}
 use Rattle.base_laws.proofs.Fill.{filling_more}
 use Rattle.base_model.specs.declared.Bounds.{Bounds}
 use Rattle.ground_counts.specs.Counts.{bit}

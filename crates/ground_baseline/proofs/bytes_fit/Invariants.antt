@@ -1,14 +1,9 @@
 -- `ground_baseline::bytes_fit` meets its contract. Before the turn at i, the first i cells are 0 or 1.
-use borrow.Author.Rules.{rules}
-use mathlib.Core.Path.{◌≡◌, sym}
+use mathlib.Core.Path.{◌≡◌}
 use mathlib.Core.Bool.{true}
 use Prim.Native.Nat.{ℕ, ◌-◌, ◌≤◌, ◌<◌}
-use native.Mathlib.Omega.{arith}
 use lib.Dec.{leb}
 use lib.ListN.{length, get_or}
-use borrow.Author.Count.{below_more}
-use borrow.Author.Tests.{le-leb, lt-leb}
-use Rattle.base_laws.proofs.Tests.{all_true, all_false}
 use Rattle.ground_baseline.proofs.bytes_fit.Given as goal
 
 abbrev pub invariant-loop-i : goal.invariant-loop-i

@@ -1,5 +1,4 @@
 -- `ground_baseline::cell_rect` meets its contract: the cell's column and row are below 1,024, so that its edges fit.
-use borrow.Author.Rules.{rules}
 use Prim.Native.Nat.{ℕ, ◌+◌, ◌*◌, ◌/◌, ◌%◌, ◌≤◌, ◌<◌}
 use native.Mathlib.Nat.{mod-lt, div-lt_iff_lt-mul}
 use native.Mathlib.Omega.{arith}

@@ -1,5 +1,4 @@
 -- `ground_baseline::leaves` meets its contract: each test is the definition's, a difference below zero being a smaller number.
-use borrow.Author.Rules.{rules}
 use mathlib.Core.Path.{◌≡◌, sym}
 use Prim.Native.Nat.{ℕ, ◌+◌, ◌*◌}
 use native.Mathlib.Omega.{arith}

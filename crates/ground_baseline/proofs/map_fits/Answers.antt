@@ -1,13 +1,10 @@
 -- `ground_baseline::map_fits` meets its contract: each test is the definition's, in its order.
-use borrow.Author.Rules.{rules}
-use mathlib.Core.Path.{◌≡◌, sym, ◌∙◌}
-use mathlib.Core.Bool.{true}
+use mathlib.Core.Path.{sym, ◌∙◌}
 use native.Mathlib.Nat.{mul-le-mul}
 use native.Mathlib.Omega.{arith}
 use Prim.Native.Nat.{◌*◌}
 use lib.ListN.{length}
-use borrow.Author.Tests.{not-true, not-false, eq-eqb, ne_eqb}
-use Rattle.ground_rects.specs.Windows.{size_fits}
+use borrow.Author.Tests.{eq-eqb, ne_eqb}
 use Rattle.ground_rects.proofs.Windows.{sized}
 use Rattle.ground_baseline.specs.Baseline.{map_fits}
 use Rattle.ground_baseline.proofs.map_fits.Goals as goal

@@ -1,5 +1,4 @@
 -- `ground_baseline::mark_baseline` meets its contract: each stage has what it asks, and the bytes read off the counts are the rule's marks.
-use borrow.Author.Rules.{rules}
 use mathlib.Core.Path.{◌∙◌}
 use native.Mathlib.Omega.{arith}
 use lib.ListN.{length}

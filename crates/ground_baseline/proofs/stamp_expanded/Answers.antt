@@ -1,5 +1,4 @@
 -- `ground_baseline::stamp_expanded` meets its contract: the span that is added holds the centres off which the rectangle keeps the mover.
-use borrow.Author.Rules.{rules}
 use Rattle.ground_baseline.proofs.Stamps.{laid_stampable, laid_more}
 use Rattle.ground_baseline.proofs.stamp_expanded.Goals as goal
 

@@ -1,21 +1,13 @@
 -- The answers to the goals of `ground_baseline::stamp_obstacles`.
-use borrow.Author.Rules.{rules}
-use mathlib.Core.Path.{◌≡◌, refl, ◌∙◌, subst}
-use mathlib.Core.List.{List, ◌∷◌, ◌++◌}
-use Prim.Native.Nat.{ℕ, ◌+◌, ◌-◌, ◌*◌, ◌≤◌, ◌<◌}
-use native.Mathlib.Numerals.{add-one}
+use mathlib.Core.Path.{◌≡◌, subst}
+use mathlib.Core.List.{◌++◌}
+use Prim.Native.Nat.{ℕ}
 use native.Mathlib.Omega.{arith}
-use lib.IntN.{ℤ}
-use lib.ListN.{length, take, length-append}
-use lib.Seq.{take-suc, take-length, length-take-le}
-use Rattle.base_model.specs.declared.Rect.{Rect}
-use Rattle.base_model.specs.declared.Bounds.{Bounds}
+use lib.ListN.{length, take}
+use lib.Seq.{take-length}
 use Rattle.ground_rects.specs.Rects.{rects_of}
-use Rattle.ground_rects.specs.Spans.{nth_rect}
-use Rattle.ground_rects.proofs.Rows.{rects_at}
-use Rattle.ground_baseline.specs.Stamps.{RectsStamped, Open}
-use Rattle.ground_baseline.proofs.Stamps.{laid_last}
-use Rattle.ground_baseline.proofs.stamp_obstacles.Invariants.{Sweep, start, still, laid_one}
+use Rattle.ground_baseline.specs.Stamps.{RectsStamped}
+use Rattle.ground_baseline.proofs.stamp_obstacles.Invariants.{start, still, laid_one}
 use Rattle.ground_baseline.proofs.stamp_obstacles.Goals as goal
 
 pub loop-i-init : goal.loop-i-init

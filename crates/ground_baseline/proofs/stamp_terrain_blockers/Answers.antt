@@ -1,20 +1,11 @@
 -- The answers to the goals of `ground_baseline::stamp_terrain_blockers`.
-use borrow.Author.Rules.{rules}
-use mathlib.Core.Path.{◌≡◌, refl, sym, ◌∙◌, subst}
-use mathlib.Core.List.{List, ◌∷◌, ◌++◌}
-use mathlib.Core.Logic.{⊎_elim}
-use Prim.Native.Nat.{ℕ, ◌+◌, ◌-◌, ◌≤◌, ◌<◌}
-use native.Mathlib.Numerals.{add-one}
+use mathlib.Core.Path.{◌≡◌, subst}
+use mathlib.Core.List.{◌++◌}
+use Prim.Native.Nat.{ℕ}
 use native.Mathlib.Omega.{arith}
-use lib.IntN.{ℤ}
-use lib.ListN.{length, get_or, length-append}
-use borrow.Author.Tests.{eq-eqb, ne_eqb}
-use Rattle.base_model.specs.declared.Rect.{Rect}
-use Rattle.base_model.specs.declared.Bounds.{Bounds}
-use Rattle.ground_baseline.specs.Baseline.{Map, cell_rect}
-use Rattle.ground_baseline.specs.Stamps.{shut_cells, RectsStamped, Open}
-use Rattle.ground_baseline.proofs.Stamps.{laid_last, cells_none, cells_shut, cells_open, cells_few, get_d_same}
-use Rattle.ground_baseline.proofs.stamp_terrain_blockers.Invariants.{map_of, Sweep, start, still, passed, laid_one}
+use lib.ListN.{length}
+use Rattle.ground_baseline.specs.Stamps.{shut_cells, RectsStamped}
+use Rattle.ground_baseline.proofs.stamp_terrain_blockers.Invariants.{map_of, start, still, passed, laid_one}
 use Rattle.ground_baseline.proofs.stamp_terrain_blockers.Goals as goal
 use Rattle.ground_baseline.proofs.stamp_terrain_blockers.Goals.{then-cells-i-eq0, else-cells-i-eq0}
 

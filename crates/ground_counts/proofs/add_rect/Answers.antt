@@ -1,5 +1,4 @@
 -- `ground_counts::add_rect` meets its contract. Each corner lies at or before the last one, so within the area, and each bump changes an entry by one at most.
-use borrow.Author.Rules.{rules}
 use mathlib.Core.Path.{◌≡◌, refl, ◌∙◌}
 use mathlib.Core.List.{List}
 use Prim.Native.Nat.{ℕ, ◌+◌, ◌*◌, ◌≤◌, ◌<◌}

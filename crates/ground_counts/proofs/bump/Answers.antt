@@ -1,5 +1,4 @@
 -- `ground_counts::bump` meets its contract: the entry is so far from overflow that one more or less fits.
-use borrow.Author.Rules.{rules}
 use native.Mathlib.Omega.{arith}
 use lib.IntN.{pos, ◌+ℤ◌}
 use lib.ListN.{get_or}

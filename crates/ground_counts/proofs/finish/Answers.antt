@@ -1,5 +1,4 @@
 -- `ground_counts::finish` meets its contract: the sums along the rows have room, then those down the columns, and what they leave is the count.
-use borrow.Author.Rules.{rules}
 use mathlib.Core.Path.{◌∙◌}
 use native.Mathlib.Omega.{arith}
 use Rattle.ground_counts.proofs.Grid.{rows_room, cols_room, counts_of}

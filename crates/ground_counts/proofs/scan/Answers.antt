@@ -1,23 +1,15 @@
 -- The answers to the goals of `ground_counts::scan`.
-use borrow.Author.Rules.{rules}
 use mathlib.Core.Path.{◌≡◌, refl}
-use Prim.Native.Nat.{ℕ, ◌+◌, ◌-◌, ◌≤◌, ◌<◌}
+use Prim.Native.Nat.{ℕ, ◌-◌}
 use native.Mathlib.Omega.{arith}
-use mathlib.Core.List.{List}
-use lib.IntN.{ℤ, pos, ◌+ℤ◌}
-use lib.ListN.{length, get_or, set}
-use lib.ListN.{length-set}
-use lib.Seq.{get_or-set_same, get_or-set_other}
-use mathlib.Core.Path.{sym, ◌∙◌, subst}
-use mathlib.Core.Bool.{Bool, true, false}
-use lib.Dec.{eqb}
-use borrow.Author.Tests.{eqb-true, eqb-false}
+use lib.IntN.{pos}
+use lib.ListN.{get_or}
+use mathlib.Core.Path.{subst}
 use mir.Syntax.{w32}
-use mir.Val.{SFits}
 use mir.Facts.{to_z-of_z}
 use Rattle.base_laws.proofs.Ints.{back}
-use Rattle.ground_counts.specs.Counts.{ScanTo, SumsFit}
-use Rattle.ground_counts.proofs.scan.Invariants.{Turn, new, new_fits, below, new_is, new_step, turned}
+use Rattle.ground_counts.specs.Counts.{ScanTo}
+use Rattle.ground_counts.proofs.scan.Invariants.{new, new_fits, turned}
 use Rattle.ground_counts.proofs.scan.Goals as goal
 
 pub loop-i-init : goal.loop-i-init

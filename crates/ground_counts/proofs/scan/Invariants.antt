@@ -1,5 +1,4 @@
 -- `ground_counts::scan` meets its contract. Before the turn at i the entries below i are summed, the others as they were; each sum fits by `SumsFit`.
-use borrow.Author.Rules.{rules}
 use mathlib.Core.Path.{◌≡◌, refl}
 use Prim.Native.Nat.{ℕ, ◌+◌, ◌-◌, ◌≤◌, ◌<◌}
 use native.Mathlib.Omega.{arith}
@@ -14,8 +13,6 @@ use lib.Dec.{eqb}
 use borrow.Author.Tests.{eqb-true, eqb-false}
 use mir.Syntax.{w32}
 use mir.Val.{SFits}
-use mir.Facts.{to_z-of_z}
-use Rattle.base_laws.proofs.Ints.{back}
 use Rattle.ground_counts.specs.Counts.{ScanTo, SumsFit}
 use Rattle.ground_counts.proofs.scan.Given as goal
 

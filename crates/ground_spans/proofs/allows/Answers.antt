@@ -1,7 +1,5 @@
 -- `ground_spans::allows` meets its contract, case by case.
-use borrow.Author.Rules.{rules}
-use mathlib.Core.Path.{sym, ap, ◌∙◌}
-use mathlib.Core.Bool.{Bool}
+use mathlib.Core.Path.{sym, ap}
 use Rattle.rule_covers.specs.Covers.{may_rise, may_fall}
 use Rattle.ground_spans.specs.declared.Change.{Change}
 use Rattle.ground_spans.specs.Changes.{allows}

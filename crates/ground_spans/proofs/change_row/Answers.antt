@@ -1,9 +1,6 @@
 -- `ground_spans::change_row` meets its contract, case by case.
-use borrow.Author.Rules.{rules}
 use mathlib.Core.Path.{sym, ap, ◌∙◌}
-use mathlib.Core.Bool.{Bool}
-use mathlib.Core.List.{List, map}
-use Prim.Native.Nat.{ℕ}
+use mathlib.Core.List.{map}
 use Rattle.base_laws.specs.Lists.{all_of}
 use Rattle.ground_spans.specs.declared.Change.{Change}
 use Rattle.ground_spans.specs.Changes.{made, allows}

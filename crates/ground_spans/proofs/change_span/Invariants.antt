@@ -1,12 +1,9 @@
 -- `ground_spans::change_span` meets its contract: the rows passed have changed. The measure is the number of rows left.
-use borrow.Author.Rules.{rules}
-use mathlib.Core.Path.{◌≡◌, refl}
-use mathlib.Core.Logic.{◌⊎◌, inl, inr}
-use Prim.Native.Nat.{◌+◌, ◌-◌, ◌*◌, ◌≤◌}
-use native.Mathlib.Omega.{arith}
-use lib.ListN.{length}
-use Rattle.ground_spans.specs.Changes.{made, allows}
-use Rattle.ground_spans.proofs.Rows.{Rows, rows_none, row_ends, row_allowed, rows_more, rows_all, none_across}
+use mathlib.Core.Path.{◌≡◌}
+use mathlib.Core.Logic.{◌⊎◌}
+use Prim.Native.Nat.{◌-◌, ◌≤◌}
+use Rattle.ground_spans.specs.Changes.{made}
+use Rattle.ground_spans.proofs.Rows.{Rows}
 use Rattle.ground_spans.proofs.change_span.Given as goal
 
 abbrev pub invariant-loop-y : goal.invariant-loop-y

@@ -1,12 +1,9 @@
 -- The answers to the goals of `ground_spans::raise`.
-use borrow.Author.Rules.{rules}
 use mathlib.Core.Path.{◌≡◌, ap, ◌∙◌}
-use mathlib.Core.List.{List}
-use Prim.Native.Nat.{ℕ, ◌+◌, ◌-◌, ◌<◌}
+use Prim.Native.Nat.{ℕ, ◌<◌}
 use native.Mathlib.Omega.{arith}
 use lib.ListN.{length, get_or}
 use borrow.Author.Tests.{ltb-true}
-use Rattle.base_laws.specs.Fill.{Filling}
 use Rattle.base_laws.proofs.Fill.{filling_none, filling_more, filling_all}
 use Rattle.base_laws.proofs.Members.{all_member, get_d_member}
 use Rattle.rule_covers.specs.Covers.{one_more, may_rise}

@@ -1,18 +1,10 @@
 -- `ground_spans::raise` meets its contract: the bytes passed are one more. The measure is what is left of the row.
-use borrow.Author.Rules.{rules}
-use mathlib.Core.Path.{◌≡◌, ap, ◌∙◌}
 use mathlib.Core.List.{List}
-use Prim.Native.Nat.{ℕ, ◌+◌, ◌-◌, ◌<◌}
-use native.Mathlib.Omega.{arith}
+use Prim.Native.Nat.{ℕ, ◌-◌}
 use lib.ListN.{length, get_or}
-use borrow.Author.Tests.{ltb-true}
 use Rattle.base_laws.specs.Fill.{Filling}
-use Rattle.base_laws.proofs.Fill.{filling_none, filling_more, filling_all}
-use Rattle.base_laws.proofs.Members.{all_member, get_d_member}
-use Rattle.rule_covers.specs.Covers.{one_more, may_rise}
 use Rattle.ground_spans.specs.declared.Change.TheVariants.{Raise}
-use Rattle.ground_spans.specs.Changes.{made, allows}
-use Rattle.ground_spans.proofs.Bytes.{still, all_changed}
+use Rattle.ground_spans.specs.Changes.{made}
 use Rattle.ground_spans.proofs.raise.Given as goal
 
 abbrev pub raised : List ℕ → ℕ → ℕ

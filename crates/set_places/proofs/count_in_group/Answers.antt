@@ -1,19 +1,16 @@
 -- The answers to the goals of `set_places::count_in_group`.
-use borrow.Author.Rules.{rules}
-use mathlib.Core.Path.{◌≡◌, refl, sym, ap, ◌∙◌}
-use mathlib.Core.Bool.{Bool}
+use mathlib.Core.Path.{refl, sym, ap, ◌∙◌}
 use mathlib.Core.List.{List, [], ◌∷◌}
-use Prim.Native.Nat.{ℕ, ◌+◌, ◌-◌, ◌*◌, ◌≤◌}
+use Prim.Native.Nat.{ℕ, ◌+◌, ◌*◌}
 use native.Mathlib.Numerals.{add-one}
 use native.Mathlib.Omega.{arith}
-use lib.Dec.{eqb}
 use lib.ListN.{length, get_or, take, length-append}
 use lib.Seq.{take_all}
 use borrow.Author.Tests.{eq-eqb, ne_eqb}
 use Rattle.base_laws.specs.Lists.{select}
 use Rattle.base_laws.proofs.Turns.{take_hit, take_miss}
 use Rattle.set_places.specs.Groups.{of_group}
-use Rattle.set_places.proofs.count_in_group.Invariants.{of_group_lem, Counted}
+use Rattle.set_places.proofs.count_in_group.Invariants.{of_group_lem}
 use Rattle.set_places.proofs.count_in_group.Goals as goal
 
 pub loop-j-init : goal.loop-j-init

@@ -1,18 +1,11 @@
 -- `set_places::count_in_group` meets its contract: the members passed are counted. The measure is the number of members left.
-use borrow.Author.Rules.{rules}
-use mathlib.Core.Path.{◌≡◌, refl, sym, ap, ◌∙◌}
+use mathlib.Core.Path.{◌≡◌}
 use mathlib.Core.Bool.{Bool}
-use mathlib.Core.List.{List, [], ◌∷◌}
+use mathlib.Core.List.{List}
 use Prim.Native.Nat.{ℕ, ◌+◌, ◌-◌, ◌*◌, ◌≤◌}
-use native.Mathlib.Numerals.{add-one}
-use native.Mathlib.Omega.{arith}
 use lib.Dec.{eqb}
-use lib.ListN.{length, get_or, take, length-append}
-use lib.Seq.{take_all}
-use borrow.Author.Tests.{eq-eqb, ne_eqb}
+use lib.ListN.{length, get_or, take}
 use Rattle.base_laws.specs.Lists.{select}
-use Rattle.base_laws.proofs.Turns.{take_hit, take_miss}
-use Rattle.set_places.specs.Groups.{of_group}
 use Rattle.set_places.proofs.count_in_group.Given as goal
 
 abbrev pub of_group_lem : List ℕ → ℕ → ℕ → Bool

@@ -1,5 +1,4 @@
 -- `set_places::footprint_at` meets its contract: rectangle i * 2 of the row stands from 8 * i on.
-use borrow.Author.Rules.{rules}
 use mathlib.Core.Path.{◌≡◌, ◌∙◌}
 use Prim.Native.Nat.{◌*◌}
 use native.Mathlib.Omega.{arith}

@@ -1,5 +1,4 @@
 -- `set_places::group_at` meets its contract: the group is the second of a placement's four numbers.
-use borrow.Author.Rules.{rules}
 use mathlib.Core.Path.{◌≡◌, ap, ◌∙◌}
 use Prim.Native.Nat.{ℕ, ◌+◌, ◌*◌}
 use native.Mathlib.Omega.{arith}
