@@ -1,3 +1,2 @@
-#![tactic(auto)]
-
 // Routes: definitions and their theory. No code.
+#![tactic(auto)]
