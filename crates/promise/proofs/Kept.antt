@@ -31,7 +31,7 @@ use Rattle.rule_layouts.proofs.Regular.{regular_board, board_first, board_exchan
 use Rattle.rule_search.specs.State.{Exhausted, Layout, State}
 use Rattle.rule_search.specs.Formed.{Good}
 use Rattle.rule_search.proofs.Found.{sets, members_of}
-use Rattle.rule_calls.specs.Areas.{Store, laid, number_of, reason_of, row, row_of, numbers, points_of, points_length, record_of, store_of}
+use Rattle.rule_calls.specs.Areas.{Store, number_of, reason_of, row, row_of, numbers, points_of, points_length, record_of, store_of}
 use Rattle.rule_calls.specs.Calls.{plan_of, ReadOut}
 use Rattle.rule_calls.proofs.Back.{laid_front, row_back, points_back, no_layout, route_numbers, reason_back}
 use Rattle.rule_calls.proofs.Accepted.{good_room}

@@ -10,7 +10,7 @@ use Rattle.base_laws.specs.Lists.{Distinct, fresh}
 use Rattle.base_laws.proofs.Members.{get_d_member}
 
 module _ {A : Type 0} (d : A) where
-  pub member_place : (l : List A) {x : A} → Memᴰ x l → (k : ℕ) × (k < length l) × (get_or l k d ≡ x)
+  pub member_place : {x : A} (l : List A) → Memᴰ x l → (k : ℕ) × (k < length l) × (get_or l k d ≡ x)
   member_place _ (Memᴰ.head e) = (0, omega arith, sym e)
   member_place _ (Memᴰ.tail {xs = l} m) = let p = member_place l m in (suc p.0, (let h = p.1 in omega arith), p.2)
 

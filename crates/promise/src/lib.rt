@@ -1,1 +1,2 @@
 // What the calls promise together: definitions and proofs alone.
+#![tactic(auto)]
