@@ -2,7 +2,7 @@
 use mathlib.Core.Path.{◌≡◌, sym, ap, ◌∙◌}
 use mathlib.Core.Bool.{true}
 use mathlib.Core.List.{List, ◌++◌}
-use Prim.Native.Nat.{ℕ, ◌+◌, ◌-◌, ◌*◌, ◌≤◌}
+use Prim.Native.Nat.{ℕ, ◌-◌, ◌*◌, ◌≤◌}
 use native.Mathlib.Nat.{mul-zero, mul-suc}
 use native.Mathlib.Omega.{arith}
 use lib.ListN.{length, take, drop, length-append}
@@ -94,7 +94,7 @@ module _ (s : List ℕ) (at : ℕ) (before : List ℕ) (inside : at ≤ length s
       }
 
 -- ---- lines by one pattern
-pub chain_wide : {s : List ℕ} {i n : ℕ} {l : List (List ℕ)} (pattern : List ℕ) → Series (line pattern) s i l n → length (flat l) ≡ fields pattern * length l
+pub chain_wide : (pattern : List ℕ) {s : List ℕ} {i n : ℕ} {l : List (List ℕ)} → Series (line pattern) s i l n → length (flat l) ≡ fields pattern * length l
 unfolding flat
 chain_wide pattern none = sym (mul-zero (fields pattern))
 chain_wide pattern (more {a = a} {l = l} h r) =

@@ -1,5 +1,7 @@
 // The lines of a drive sheet's text, read: one line, a run of lines, the cells, and each part of the sheet by its lines. Apart from the
 // whole sheet: a line that goes to a wrong place is refused without it.
+#![tactic(auto)]
+
 ghost use Rattle.std.specs.Prelude.{◌≡◌, true, ◌≤◌, length};
 ghost use Rattle.text_forms.specs.Patterns.{repeats};
 ghost use Rattle.sheet_lines.specs.Answers.{LineRoom, LineAt, RowsAt, CellsAt, MapRead, LinesRead, LimitsRead, GroupsRead};
