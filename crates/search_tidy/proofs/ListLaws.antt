@@ -6,7 +6,7 @@ use native.Mathlib.Omega.{arith}
 use native.Mathlib.Numerals.{add-one}
 use native.Mathlib.Nat.{suc-mul, mul-le-mul_right}
 use lib.ListN.{length, get_or}
-use Rattle.base_laws.specs.Lists.{below, flat, padded}
+use Rattle.base_laws.specs.Lists.{flat, padded}
 use Rattle.base_laws.specs.Fill.{zeros, over}
 use Rattle.base_laws.proofs.Stores.{length_zeros, length_over}
 use Rattle.base_model.specs.declared.Record.{Record}

@@ -1,4 +1,6 @@
 // Clearing the unused entries of a record and its areas, once 16 has let them pass.
+#![tactic(auto)]
+
 ghost use Rattle.std.specs.Prelude.{◌≡◌, map, reverse, ◌*◌, ◌≤◌, length, take};
 ghost use Rattle.base_laws.specs.Lists.{below, flat, padded};
 ghost use Rattle.rule_layouts.specs.Inputs.{Inputs};
