@@ -1,7 +1,7 @@
 -- Placements past the first 6,145 change no call: there are too many of them either way,
 -- and the lists area that is lent on is too short just where the whole one is.
 -- First over an order of steps, then over the caller's table: one that does not fit is refused, whatever the placements.
-use Prim.Native.Nat.{ℕ, ◌+◌, ◌*◌, ◌≤◌, ◌<◌}
+use Prim.Native.Nat.{ℕ, ◌*◌, ◌≤◌, ◌<◌}
 use mathlib.Core.Path.{◌≡◌, refl, sym, ◌∙◌, ap, ap₂, subst}
 use mathlib.Core.Bool.{Bool, true, false, ◌&&◌}
 use mathlib.Core.Option.{Option, none, some}

@@ -1,4 +1,6 @@
 // How much of a lists area is lent on with the placements that are laid flat.
+#![tactic(auto)]
+
 ghost use Rattle.std.specs.Prelude.{◌≡◌};
 ghost use Rattle.walls_lent.specs.Given.{lent};
 
