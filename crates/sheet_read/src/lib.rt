@@ -1,4 +1,6 @@
 // The drive sheet's text, read: all its parts one after the other.
+#![tactic(auto)]
+
 ghost use Rattle.sheet_read.specs.Answers.{SheetLent, SheetRead};
 
 use sheet_lines::{Part, Place};
