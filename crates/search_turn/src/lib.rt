@@ -1,4 +1,6 @@
 // The frames of a search that evaluate nothing, and what an evaluation adds to the search record and lent areas, as in `WallSearch::step`.
+#![tactic(auto)]
+
 ghost use Rattle.std.specs.Prelude.{◌≡◌, true, List, ℕ, ◌+◌, ◌-◌, ◌*◌, ◌≤◌, ◌<◌, length, get_or};
 ghost use Rattle.base_laws.specs.Lists.{any_of, same};
 ghost use Rattle.base_laws.specs.Fill.{zeros, over};
