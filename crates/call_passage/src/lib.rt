@@ -1,4 +1,6 @@
 // Whether a mover passes from end to end over its baseline alone.
+#![tactic(auto)]
+
 ghost use Rattle.std.specs.Prelude.{◌≡◌};
 ghost use Rattle.base_model.specs.Answers.{reply_of};
 ghost use Rattle.rule_routes.specs.Edges.{steps_of};
