@@ -1,4 +1,6 @@
 // Reading a layout.
+#![tactic(auto)]
+
 ghost use Rattle.std.specs.Prelude.{◌≡◌, true, not, List, ℕ, ◌/◌, ◌≤◌, length, get_or};
 ghost use Rattle.base_laws.specs.Lists.{is_some};
 ghost use Rattle.base_model.specs.Answers.{first, said_of, reply_of};
