@@ -1,4 +1,6 @@
 // Who passes a set of placements: a route past it, whether it is a minimal block, the allowed mover's route.
+#![tactic(auto)]
+
 ghost use Rattle.std.specs.Prelude.{◌≡◌, true};
 ghost use Rattle.base_laws.specs.Lists.{ascends, is_some};
 ghost use Rattle.ground_rects.specs.Windows.{centres};
