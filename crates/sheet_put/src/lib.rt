@@ -1,5 +1,7 @@
 // The line of a layout as text, part by part: its members, the points of its route, and any line that has room. Apart from the whole
 // result: a part that is written wrong is refused without it.
+#![tactic(auto)]
+
 ghost use Rattle.std.specs.Prelude.{◌≡◌, map, ◌+◌, ◌*◌, ◌≤◌, length};
 ghost use Rattle.rule_calls.specs.Areas.{positions};
 ghost use Rattle.text_forms.specs.Forms.{decimal};
