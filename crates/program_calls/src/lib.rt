@@ -1,7 +1,11 @@
 // The calls of a stored search, by value, each answer printed on a line; the areas at the sizes of the largest search.
+#![tactic(auto)]
+
 use base_model::{Allow, Bounds, Judged, LAYOUTS, ROW, Record, SLOTS};
 use program_words::stored::Head;
 use program_words::{answers, say};
+use std::io;
+use std::io::Write;
 
 // The sizes that every stored search fits: a window of 300 by 260 centres, 64 placements, 500 states, and four routes with a point for
 // each centre.
@@ -36,7 +40,8 @@ pub type Layouts = [u16; LAYOUTS_LENGTH];
 pub type Points = [u32; POINTS_LENGTH];
 
 // Prepares a mover; prints the answer and the baseline's digest.
-pub fn prepare_mover(
+pub fn prepare_mover<W: Write>(
+    out: &mut W,
     name: &[u8],
     head: Head,
     mover: Bounds,
@@ -49,7 +54,7 @@ pub fn prepare_mover(
     queue: &mut Centres,
     predecessors: &mut Centres,
     route: &mut Centres,
-) -> bool {
+) -> io::Result<bool> {
     let query = head.query;
     let answer = call_prepare::prepare(
         head.across,
@@ -68,17 +73,18 @@ pub fn prepare_mover(
         predecessors,
         route,
     );
-    say::word(name);
-    let number = answers::say_answer(answer);
+    say::word(out, name)?;
+    let number = answers::say_answer(out, answer)?;
     if answers::writes(answer) {
-        say::number(say::bytes(0, baseline, head.centres as usize));
+        say::number(out, say::bytes(0, baseline, head.centres as usize))?;
     }
-    say::end();
-    number == 0
+    say::end(out)?;
+    Ok(number == 0)
 }
 
 // Prepares the allowed mover, if there is one.
-pub fn prepare_allowed(
+pub fn prepare_allowed<W: Write>(
+    out: &mut W,
     head: Head,
     cells: &[u8],
     obstacles: &[i32],
@@ -89,12 +95,13 @@ pub fn prepare_allowed(
     queue: &mut Centres,
     predecessors: &mut Centres,
     route: &mut Centres,
-) -> bool {
+) -> io::Result<bool> {
     let query = head.query;
     let allow = query.allow;
     match allow {
-        Allow::Nobody => true,
+        Allow::Nobody => Ok(true),
         Allow::Bounded(mover) => prepare_mover(
+            out,
             b"allow",
             head,
             mover,
@@ -112,7 +119,8 @@ pub fn prepare_allowed(
 }
 
 // Steps by n; prints the answer and the record.
-fn step_by(
+fn step_by<W: Write>(
+    out: &mut W,
     n: u32,
     head: Head,
     groups: &[u32],
@@ -131,7 +139,7 @@ fn step_by(
     visited: &mut Visited,
     layouts: &mut Layouts,
     points: &mut Points,
-) -> Record {
+) -> io::Result<Record> {
     let query = head.query;
     let limits = head.limits;
     let reply = call_step::step(
@@ -155,17 +163,18 @@ fn step_by(
         layouts,
         points,
     );
-    say::word(b"step");
-    say::number(n);
+    say::word(out, b"step")?;
+    say::number(out, n)?;
     let answer = reply.answer;
-    answers::say_answer(answer);
+    answers::say_answer(out, answer)?;
     let after = reply.rec;
-    answers::show(after, head, lists, visited, layouts, points);
-    after
+    answers::show(out, after, head, lists, visited, layouts, points)?;
+    Ok(after)
 }
 
 // Steps by each portion.
-pub fn step_all(
+pub fn step_all<W: Write>(
+    out: &mut W,
     portions: &[u32],
     head: Head,
     groups: &[u32],
@@ -184,13 +193,14 @@ pub fn step_all(
     visited: &mut Visited,
     layouts: &mut Layouts,
     points: &mut Points,
-) -> Record {
+) -> io::Result<Record> {
     let mut rec = first;
     let mut k = 0;
     while k < portions.len() {
         let n = portions[k];
         k = k + 1;
         rec = step_by(
+            out,
             n,
             head,
             groups,
@@ -209,13 +219,14 @@ pub fn step_all(
             visited,
             layouts,
             points,
-        );
+        )?;
     }
-    rec
+    Ok(rec)
 }
 
 // Reads a layout; prints the answer, its members, and its route's length and digest.
-fn read_one(
+fn read_one<W: Write>(
+    out: &mut W,
     k: u32,
     head: Head,
     groups: &[u32],
@@ -228,7 +239,7 @@ fn read_one(
     visited: &[u16],
     layouts: &[u16],
     points: &[u32],
-) {
+) -> io::Result<()> {
     let query = head.query;
     let limits = head.limits;
     let mut answer = 0u32;
@@ -250,25 +261,26 @@ fn read_one(
         &mut answer,
         &mut index,
     );
-    say::word(b"layout");
-    say::number(k);
-    say::number(answer);
-    say::number(index);
+    say::word(out, b"layout")?;
+    say::number(out, k)?;
+    say::number(out, answer)?;
+    say::number(out, index)?;
     if answer == 0 {
         let set = answers::members(layouts, k as usize);
-        say::row(set, set.len());
+        say::row(out, set, set.len())?;
     }
-    say::word(b" route");
-    say::size(part.len());
-    say::number(say::words(0, part, part.len()));
-    say::end();
+    say::word(out, b" route")?;
+    say::size(out, part.len())?;
+    say::number(out, say::words(0, part, part.len()))?;
+    say::end(out)
 }
 
 // Every layout, and one that is not listed.
 const READINGS: u32 = LAYOUTS as u32 + 1;
 
 // Reads every layout, and one that is not listed.
-pub fn read_all(
+pub fn read_all<W: Write>(
+    out: &mut W,
     head: Head,
     groups: &[u32],
     numbers: &[u32],
@@ -280,21 +292,24 @@ pub fn read_all(
     visited: &[u16],
     layouts: &[u16],
     points: &[u32],
-) {
+) -> io::Result<()> {
     let mut k = 0u32;
     while k < READINGS {
         read_one(
-            k, head, groups, numbers, edges, block, allow, rec, lists, visited, layouts, points,
-        );
+            out, k, head, groups, numbers, edges, block, allow, rec, lists, visited, layouts,
+            points,
+        )?;
         if rec.layouts <= k {
-            return;
+            return Ok(());
         }
         k = k + 1;
     }
+    Ok(())
 }
 
 // Judges a selection; prints the answer, the verdict and the ground left.
-fn judge_one(
+fn judge_one<W: Write>(
+    out: &mut W,
     set: &[u16],
     head: Head,
     groups: &[u32],
@@ -308,7 +323,7 @@ fn judge_one(
     queue: &mut Centres,
     predecessors: &mut Centres,
     route: &mut Centres,
-) {
+) -> io::Result<()> {
     let query = head.query;
     let judged = call_judge::judge(
         query,
@@ -325,22 +340,23 @@ fn judge_one(
         predecessors,
         route,
     );
-    say::word(b"judge");
+    say::word(out, b"judge")?;
     match judged {
         Judged::Verdict(v, ground) => {
-            say::number(0);
-            say::number(base_model::verdict_number(v));
-            say::number(ground);
+            say::number(out, 0)?;
+            say::number(out, base_model::verdict_number(v))?;
+            say::number(out, ground)?;
         }
         Judged::Refused(r) => {
-            answers::say_refusal(r);
+            answers::say_refusal(out, r)?;
         }
     }
-    say::end();
+    say::end(out)
 }
 
 // Judges the first n selections of a row of selections, each as in the layouts area.
-pub fn judge_all(
+pub fn judge_all<W: Write>(
+    out: &mut W,
     rows: &[u16],
     n: u32,
     head: Head,
@@ -355,11 +371,12 @@ pub fn judge_all(
     queue: &mut Centres,
     predecessors: &mut Centres,
     route: &mut Centres,
-) {
+) -> io::Result<()> {
     let mut k = 0u32;
     while k < n {
         let set = answers::members(rows, k as usize);
         judge_one(
+            out,
             set,
             head,
             groups,
@@ -373,7 +390,8 @@ pub fn judge_all(
             queue,
             predecessors,
             route,
-        );
+        )?;
         k = k + 1;
     }
+    Ok(())
 }

@@ -1,7 +1,11 @@
 // Drags rocks over a small map, as an editor does: covers a mover's baseline with a rock, lifts it off and covers it elsewhere. After each
 // call it prints the answer, the counts row by row, and the verdict on the ground with no building on it.
+#![tactic(auto)]
+
 use base_model::{Allow, Answer, Bounds, Judged, Position, Query, Rect};
 use program_words::{answers, say};
+use std::io;
+use std::io::Write;
 
 // The map is one walkable cell.
 const ACROSS: u32 = 1;
@@ -67,30 +71,31 @@ fn wide(x: u8) -> u32 {
 }
 
 // Prints one row of counts.
-fn show_row(row: &[u8]) {
+fn show_row<W: Write>(out: &mut W, row: &[u8]) -> io::Result<()> {
     let mut i = 0;
     while i < row.len() {
-        say::number(wide(row[i]));
+        say::number(out, wide(row[i]))?;
         i += 1;
     }
-    say::end();
+    say::end(out)
 }
 
 // Prints the counts row by row.
-fn show_counts(baseline: &Baseline) {
+fn show_counts<W: Write>(out: &mut W, baseline: &Baseline) -> io::Result<()> {
     let counts = &baseline[..];
     let mut row = 0;
     while row < HEIGHT {
         let from = row * WIDTH;
         let to = from + WIDTH;
-        show_row(&counts[from..to]);
+        show_row(out, &counts[from..to])?;
         row += 1;
     }
+    Ok(())
 }
 
 // Judges the ground with no building on it; prints the verdict, 4 where the mover passes and 7 where it is shut out, and the ground left.
 // There are no groups, no placements, no allowed mover and no members of a selection: these are empty.
-fn judge_ground(steps: &[i32], baseline: &Baseline) {
+fn judge_ground<W: Write>(out: &mut W, steps: &[i32], baseline: &Baseline) -> io::Result<()> {
     let query = Query {
         window: WINDOW,
         start: START,
@@ -120,30 +125,36 @@ fn judge_ground(steps: &[i32], baseline: &Baseline) {
     );
     match judged {
         Judged::Verdict(v, ground) => {
-            say::word(b"verdict");
-            say::number(base_model::verdict_number(v));
-            say::word(b" ground");
-            say::number(ground);
+            say::word(out, b"verdict")?;
+            say::number(out, base_model::verdict_number(v))?;
+            say::word(out, b" ground")?;
+            say::number(out, ground)?;
         }
         Judged::Refused(r) => {
-            say::word(b"refused");
-            answers::say_refusal(r);
+            say::word(out, b"refused")?;
+            answers::say_refusal(out, r)?;
         }
     }
-    say::end();
+    say::end(out)
 }
 
 // Prints what was done and its answer, then the counts and the verdict.
-fn say_done(what: &[u8], answer: Answer, steps: &[i32], baseline: &Baseline) {
-    say::word(what);
-    answers::say_answer(answer);
-    say::end();
-    show_counts(baseline);
-    judge_ground(steps, baseline);
+fn say_done<W: Write>(
+    out: &mut W,
+    what: &[u8],
+    answer: Answer,
+    steps: &[i32],
+    baseline: &Baseline,
+) -> io::Result<()> {
+    say::word(out, what)?;
+    answers::say_answer(out, answer)?;
+    say::end(out)?;
+    show_counts(out, baseline)?;
+    judge_ground(out, steps, baseline)
 }
 
 // Prepares the mover; there is no obstacle.
-fn prepare_mover(steps: &[i32], baseline: &mut Baseline) {
+fn prepare_mover<W: Write>(out: &mut W, steps: &[i32], baseline: &mut Baseline) -> io::Result<()> {
     let mut counts = [0i32; CORNERS];
     let mut map = [0u8; CENTRES];
     let mut queue = [0u32; CENTRES];
@@ -166,34 +177,47 @@ fn prepare_mover(steps: &[i32], baseline: &mut Baseline) {
         &mut predecessors,
         &mut route,
     );
-    say_done(b"prepare", answer, steps, baseline);
+    say_done(out, b"prepare", answer, steps, baseline)
 }
 
 // Puts a rock down.
-fn cover_rock(what: &[u8], rock: Rect, steps: &[i32], baseline: &mut Baseline) {
+fn cover_rock<W: Write>(
+    out: &mut W,
+    what: &[u8],
+    rock: Rect,
+    steps: &[i32],
+    baseline: &mut Baseline,
+) -> io::Result<()> {
     let answer = walls::cover(WINDOW, MOVER, rock, baseline);
-    say_done(what, answer, steps, baseline);
+    say_done(out, what, answer, steps, baseline)
 }
 
 // Takes a rock up.
-fn lift_rock(what: &[u8], rock: Rect, steps: &[i32], baseline: &mut Baseline) {
+fn lift_rock<W: Write>(
+    out: &mut W,
+    what: &[u8],
+    rock: Rect,
+    steps: &[i32],
+    baseline: &mut Baseline,
+) -> io::Result<()> {
     let answer = walls::lift(WINDOW, MOVER, rock, baseline);
-    say_done(what, answer, steps, baseline);
+    say_done(out, what, answer, steps, baseline)
 }
 
 // Two rocks are put down on one place: the second raises the counts there and changes no verdict. It is dragged to the lower end, and the
 // two shut the mover out. A lift where no rock stands is refused with 20: one of its counts is above zero, yet nothing is written. With
 // both rocks taken up the counts are the prepared ones.
-fn main() {
+fn main(rt: HostRuntime) -> io::Result<()> {
     let table = walls::original_steps();
     let steps = &table[..];
+    let mut out = io::writer(&rt);
     let mut baseline = [0u8; CENTRES];
-    prepare_mover(steps, &mut baseline);
-    cover_rock(b"cover upper", UPPER, steps, &mut baseline);
-    cover_rock(b"cover upper again", UPPER, steps, &mut baseline);
-    lift_rock(b"lift upper", UPPER, steps, &mut baseline);
-    cover_rock(b"cover lower", LOWER, steps, &mut baseline);
-    lift_rock(b"lift beside", BESIDE, steps, &mut baseline);
-    lift_rock(b"lift lower", LOWER, steps, &mut baseline);
-    lift_rock(b"lift upper", UPPER, steps, &mut baseline);
+    prepare_mover(&mut out, steps, &mut baseline)?;
+    cover_rock(&mut out, b"cover upper", UPPER, steps, &mut baseline)?;
+    cover_rock(&mut out, b"cover upper again", UPPER, steps, &mut baseline)?;
+    lift_rock(&mut out, b"lift upper", UPPER, steps, &mut baseline)?;
+    cover_rock(&mut out, b"cover lower", LOWER, steps, &mut baseline)?;
+    lift_rock(&mut out, b"lift beside", BESIDE, steps, &mut baseline)?;
+    lift_rock(&mut out, b"lift lower", LOWER, steps, &mut baseline)?;
+    lift_rock(&mut out, b"lift upper", UPPER, steps, &mut baseline)
 }

@@ -1,10 +1,15 @@
 // Stored searches, one a line: each cut into its runs and played.
+#![tactic(auto)]
+
 use program_calls::{Centres, Counts, Layouts, Lists, Marks, Points, Visited};
 use program_words::words::MOST_NUMBERS;
 use program_words::{stored, words};
+use std::io;
+use std::io::Write;
 
 // Cuts a line into its runs and answers the search; false where its runs are not as long as it says.
-fn cut(
+fn cut<W: Write>(
+    out: &mut W,
     count: usize,
     unsigned: &[u32],
     signed: &[i32],
@@ -22,7 +27,7 @@ fn cut(
     visited: &mut Visited,
     layouts: &mut Layouts,
     points: &mut Points,
-) -> bool {
+) -> io::Result<bool> {
     let head = stored::head_of(unsigned, signed);
     let ends = stored::ends_of(unsigned);
     let a = ends.cells;
@@ -35,21 +40,22 @@ fn cut(
     let h = ends.block;
     let i = ends.allow;
     if count != i {
-        return false;
+        return Ok(false);
     }
     if unsigned.len() < i {
-        return false;
+        return Ok(false);
     }
     if signed.len() < i {
-        return false;
+        return Ok(false);
     }
     if bytes.len() < i {
-        return false;
+        return Ok(false);
     }
     if shorts.len() < i {
-        return false;
+        return Ok(false);
     }
     program_play::search_for(
+        out,
         head,
         &bytes[stored::RUNS..a],
         &signed[a..b],
@@ -72,12 +78,13 @@ fn cut(
         visited,
         layouts,
         points,
-    );
-    true
+    )?;
+    Ok(true)
 }
 
 // Answers the searches of a text, one a line, up to the first line that is none.
-pub fn answer_all(
+pub fn answer_all<W: Write>(
+    out: &mut W,
     text: &[u8],
     steps: &[i32],
     unsigned: &mut [u32; MOST_NUMBERS],
@@ -95,18 +102,19 @@ pub fn answer_all(
     visited: &mut Visited,
     layouts: &mut Layouts,
     points: &mut Points,
-) -> bool {
+) -> io::Result<bool> {
     let mut at = 0;
     while at < text.len() {
         let span = words::line(text, at, unsigned, signed, bytes, shorts);
         if span.bad {
-            return false;
+            return Ok(false);
         }
         if span.next <= at {
-            return false;
+            return Ok(false);
         }
         at = span.next;
         let fine = cut(
+            out,
             span.count,
             unsigned,
             signed,
@@ -124,10 +132,10 @@ pub fn answer_all(
             visited,
             layouts,
             points,
-        );
+        )?;
         if !fine {
-            return false;
+            return Ok(false);
         }
     }
-    true
+    Ok(true)
 }

@@ -1,11 +1,16 @@
 // One stored search: its movers prepared, begun, stepped by each portion, its layouts read and judged.
+#![tactic(auto)]
+
 use base_model::Record;
 use program_calls::{Centres, Counts, Layouts, Lists, Marks, Points, Visited};
 use program_words::stored::Head;
 use program_words::{answers, say};
+use std::io;
+use std::io::Write;
 
 // Begins over the baselines, steps by each portion, then reads and judges.
-fn search_on(
+fn search_on<W: Write>(
+    out: &mut W,
     head: Head,
     groups: &[u32],
     numbers: &[u32],
@@ -24,7 +29,7 @@ fn search_on(
     visited: &mut Visited,
     layouts: &mut Layouts,
     points: &mut Points,
-) {
+) -> io::Result<()> {
     let query = head.query;
     let limits = head.limits;
     let reply = call_begin::begin(
@@ -46,15 +51,15 @@ fn search_on(
         layouts,
         points,
     );
-    say::word(b"begin");
+    say::word(out, b"begin")?;
     let answer = reply.answer;
-    if answers::say_answer(answer) != 0 {
-        say::end();
-        return;
+    if answers::say_answer(out, answer)? != 0 {
+        return say::end(out);
     }
     let first: Record = reply.rec;
-    answers::show(first, head, lists, visited, layouts, points);
+    answers::show(out, first, head, lists, visited, layouts, points)?;
     let last = program_calls::step_all(
+        out,
         portions,
         head,
         groups,
@@ -73,11 +78,12 @@ fn search_on(
         visited,
         layouts,
         points,
-    );
+    )?;
     program_calls::read_all(
-        head, groups, numbers, edges, block, allow, last, lists, visited, layouts, points,
-    );
+        out, head, groups, numbers, edges, block, allow, last, lists, visited, layouts, points,
+    )?;
     program_calls::judge_all(
+        out,
         layouts,
         last.layouts,
         head,
@@ -92,8 +98,9 @@ fn search_on(
         queue,
         predecessors,
         route,
-    );
+    )?;
     program_calls::judge_all(
+        out,
         selections,
         answers::rows_of(selections.len()),
         head,
@@ -108,11 +115,12 @@ fn search_on(
         queue,
         predecessors,
         route,
-    );
+    )
 }
 
 // Prepares both movers, unless baselines are handed in, then searches.
-pub fn search_for(
+pub fn search_for<W: Write>(
+    out: &mut W,
     head: Head,
     cells: &[u8],
     obstacles: &[i32],
@@ -135,12 +143,13 @@ pub fn search_for(
     visited: &mut Visited,
     layouts: &mut Layouts,
     points: &mut Points,
-) {
-    say::word(b"search");
-    say::number(head.number);
-    say::end();
+) -> io::Result<()> {
+    say::word(out, b"search")?;
+    say::number(out, head.number)?;
+    say::end(out)?;
     if head.given {
-        search_on(
+        return search_on(
+            out,
             head,
             groups,
             numbers,
@@ -160,10 +169,10 @@ pub fn search_for(
             layouts,
             points,
         );
-        return;
     }
     let query = head.query;
     let fine = program_calls::prepare_mover(
+        out,
         b"block",
         head,
         query.block,
@@ -176,8 +185,9 @@ pub fn search_for(
         queue,
         predecessors,
         route,
-    );
+    )?;
     let also = program_calls::prepare_allowed(
+        out,
         head,
         cells,
         obstacles,
@@ -188,14 +198,15 @@ pub fn search_for(
         queue,
         predecessors,
         route,
-    );
+    )?;
     if !fine {
-        return;
+        return Ok(());
     }
     if !also {
-        return;
+        return Ok(());
     }
     search_on(
+        out,
         head,
         groups,
         numbers,
@@ -214,5 +225,5 @@ pub fn search_for(
         visited,
         layouts,
         points,
-    );
+    )
 }

@@ -1,7 +1,11 @@
 // Ranks three posts by their distance from an entrance, as a planner does before a search: one beside an end of it, one between its ends
 // and one beyond the radius. Prints each rank, then the posts from the nearest on.
+#![tactic(auto)]
+
 use base_model::{Position, Rank, Ranked, Rect, Site};
 use program_words::{answers, say};
+use std::io;
+use std::io::Write;
 
 // The map has 32 by 32 pixels.
 const ACROSS: u32 = 4;
@@ -62,49 +66,48 @@ struct Pair {
     far: Post,
 }
 
-fn say_place(place: Place) {
+fn say_place<W: Write>(out: &mut W, place: Place) -> io::Result<()> {
     match place {
-        Place::Beside => say::word(b"beside"),
-        Place::Between => say::word(b"between"),
-        Place::Beyond => say::word(b"beyond"),
+        Place::Beside => say::word(out, b"beside"),
+        Place::Between => say::word(out, b"between"),
+        Place::Beyond => say::word(out, b"beyond"),
     }
 }
 
-fn say_part(x: u64) {
-    say::word(b" ");
-    io::print_decimal(1, x);
+fn say_part<W: Write>(out: &mut W, x: u64) -> io::Result<()> {
+    write!(out, " {x}")
 }
 
 // Prints quotient, remainder and divisor, or that there is no rank.
-fn say_ranked(ranked: Ranked) -> Rank {
+fn say_ranked<W: Write>(out: &mut W, ranked: Ranked) -> io::Result<Rank> {
     match ranked {
         Ranked::Rank(rank) => {
-            say_part(rank.quotient);
-            say_part(rank.remainder);
-            say_part(rank.divisor);
-            rank
+            say_part(out, rank.quotient)?;
+            say_part(out, rank.remainder)?;
+            say_part(out, rank.divisor)?;
+            Ok(rank)
         }
         Ranked::Beyond => {
-            say::word(b" no rank");
-            NO_RANK
+            say::word(out, b" no rank")?;
+            Ok(NO_RANK)
         }
         Ranked::Refused(r) => {
-            say::word(b" refused");
-            answers::say_refusal(r);
-            NO_RANK
+            say::word(out, b" refused")?;
+            answers::say_refusal(out, r)?;
+            Ok(NO_RANK)
         }
     }
 }
 
 // Ranks a post and prints its rank.
-fn rank_post(place: Place, footprint: Rect) -> Post {
-    say_place(place);
-    let rank = say_ranked(walls::rank(ACROSS, DOWN, SITE, footprint));
-    say::end();
-    Post {
+fn rank_post<W: Write>(out: &mut W, place: Place, footprint: Rect) -> io::Result<Post> {
+    say_place(out, place)?;
+    let rank = say_ranked(out, walls::rank(ACROSS, DOWN, SITE, footprint))?;
+    say::end(out)?;
+    Ok(Post {
         place: place,
         rank: rank,
-    }
+    })
 }
 
 // Two posts that are equally near stay in their order.
@@ -117,18 +120,20 @@ fn nearer_first(a: Post, b: Post) -> Pair {
     Pair { near: a, far: b }
 }
 
-fn say_post(post: Post) {
+fn say_post<W: Write>(out: &mut W, post: Post) -> io::Result<()> {
     let place = post.place;
-    say::word(b" ");
-    say_place(place);
+    say::word(out, b" ")?;
+    say_place(out, place)
 }
 
 // The two posts that have a rank are at the same whole distance, 4, and the remainder 164 is more than 2: the divisors tell that the one
 // between the ends is nearer, by 164/400 to 2/4.
-fn main() {
-    let beyond = rank_post(Place::Beyond, BEYOND);
-    let beside = rank_post(Place::Beside, BESIDE);
-    let between = rank_post(Place::Between, BETWEEN);
+fn main(rt: HostRuntime) -> io::Result<()> {
+    let mut writer = io::writer(&rt);
+    let out = &mut writer;
+    let beyond = rank_post(out, Place::Beyond, BEYOND)?;
+    let beside = rank_post(out, Place::Beside, BESIDE)?;
+    let between = rank_post(out, Place::Between, BETWEEN)?;
     let two = nearer_first(beyond, beside);
     let near = two.near;
     let far = two.far;
@@ -138,9 +143,9 @@ fn main() {
     let first = nearer_first(near, middle);
     let nearest = first.near;
     let second = first.far;
-    say::word(b"nearest first:");
-    say_post(nearest);
-    say_post(second);
-    say_post(farthest);
-    say::end();
+    say::word(out, b"nearest first:")?;
+    say_post(out, nearest)?;
+    say_post(out, second)?;
+    say_post(out, farthest)?;
+    say::end(out)
 }

@@ -1,4 +1,6 @@
 // Answers searches read from standard input: makes each search's calls in portions and prints each answer.
+#![tactic(auto)]
+
 use input_arrival::Arrival;
 use program_calls::{
     Centres, Counts, LAYOUTS_LENGTH, LISTS_LENGTH, Layouts, Lists, MOST_CENTRES, MOST_COUNTS,
@@ -6,24 +8,27 @@ use program_calls::{
 };
 use program_words::say;
 use program_words::words::MOST_NUMBERS;
+use std::io;
+use std::io::{Read, Write};
 
 // The most bytes that are read.
 const MOST_BYTES: usize = 1048576;
 
 // Prints that the input is none.
-fn say_error() {
-    say::word(b"error");
-    say::end();
+fn say_error<W: Write>(out: &mut W) -> io::Result<()> {
+    say::word(out, b"error")?;
+    say::end(out)
 }
 
 // Prints that the input did not arrive whole.
-fn say_cut() {
-    say::word(b"(refused 18)");
-    say::end();
+fn say_cut<W: Write>(out: &mut W) -> io::Result<()> {
+    say::word(out, b"(refused 18)")?;
+    say::end(out)
 }
 
 // Answers what arrived whole and stands in the area.
-fn answer_arrived(
+fn answer_arrived<W: Write>(
+    out: &mut W,
     input: Arrival,
     text: &[u8],
     unsigned: &mut [u32; MOST_NUMBERS],
@@ -41,17 +46,16 @@ fn answer_arrived(
     visited: &mut Visited,
     layouts: &mut Layouts,
     points: &mut Points,
-) {
+) -> io::Result<()> {
     let Arrival::Whole(n) = input else {
-        say_cut();
-        return;
+        return say_cut(out);
     };
     if text.len() < n {
-        say_cut();
-        return;
+        return say_cut(out);
     }
     let steps = route_table::original_steps();
     let fine = program_lines::answer_all(
+        out,
         &text[0..n],
         &steps,
         unsigned,
@@ -69,14 +73,17 @@ fn answer_arrived(
         visited,
         layouts,
         points,
-    );
+    )?;
     if !fine {
-        say_error();
+        return say_error(out);
     }
+    Ok(())
 }
 
 // Reads standard input and answers it.
-fn answer_input(
+fn answer_input<R: Read, W: Write>(
+    reader: &mut R,
+    out: &mut W,
     text: &mut [u8; MOST_BYTES],
     unsigned: &mut [u32; MOST_NUMBERS],
     signed: &mut [i32; MOST_NUMBERS],
@@ -93,9 +100,10 @@ fn answer_input(
     visited: &mut Visited,
     layouts: &mut Layouts,
     points: &mut Points,
-) {
-    let input = input_read::read_all(libc::STDIN_FILENO, text);
+) -> io::Result<()> {
+    let input = input_read::read_all(reader, text);
     answer_arrived(
+        out,
         input,
         text,
         unsigned,
@@ -113,10 +121,10 @@ fn answer_input(
         visited,
         layouts,
         points,
-    );
+    )
 }
 
-fn main() {
+fn main(rt: HostRuntime) -> io::Result<()> {
     let mut text = [0u8; MOST_BYTES];
     let mut unsigned = [0u32; MOST_NUMBERS];
     let mut signed = [0i32; MOST_NUMBERS];
@@ -133,7 +141,11 @@ fn main() {
     let mut visited = [0u16; VISITED_LENGTH];
     let mut layouts = [0u16; LAYOUTS_LENGTH];
     let mut points = [0u32; POINTS_LENGTH];
+    let mut reader = rt.stdin();
+    let mut out = io::writer(&rt);
     answer_input(
+        &mut reader,
+        &mut out,
         &mut text,
         &mut unsigned,
         &mut signed,
@@ -150,5 +162,5 @@ fn main() {
         &mut visited,
         &mut layouts,
         &mut points,
-    );
+    )
 }
