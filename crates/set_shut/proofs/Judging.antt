@@ -19,15 +19,15 @@ module _ (w : Rect) (steps : List Step) (start end : ℕ) (block : Mover) (allow
   by_shut = past_shut w steps start end block allow s
 
   module _ (m : Bool) (e : m ≡ minimal w steps start end block s) where
-    pub shut_spare : not m ≡ true → Spare ≡ by_shut
+    pub shut_spare : m ≡ false → Spare ≡ by_shut
     unfolding past_shut
-    shut_spare t = sym (picked _ Spare _ Wall (ap not (sym e) ∙ t))
+    shut_spare t = sym (picked _ Spare _ Wall (ap not (sym e ∙ t)))
 
-    module _ (f : not m ≡ false) (a : Bool) (p : a ≡ is_some (allowed_past w steps start end allow s)) where
-      pub shut_shut : not a ≡ true → Shut ≡ by_shut
+    module _ (f : m ≡ true) (a : Bool) (p : a ≡ is_some (allowed_past w steps start end allow s)) where
+      pub shut_shut : a ≡ false → Shut ≡ by_shut
       unfolding past_shut
-      shut_shut t = sym (passed_by _ Spare _ Wall (ap not (sym e) ∙ f) ∙ picked _ Shut _ Wall (ap not (sym p) ∙ t))
+      shut_shut t = sym (passed_by _ Spare _ Wall (ap not (sym e ∙ f)) ∙ picked _ Shut _ Wall (ap not (sym p ∙ t)))
 
-      pub shut_wall : not a ≡ false → Wall ≡ by_shut
+      pub shut_wall : a ≡ true → Wall ≡ by_shut
       unfolding past_shut
-      shut_wall t = sym (passed_by _ Spare _ Wall (ap not (sym e) ∙ f) ∙ passed_by _ Shut _ Wall (ap not (sym p) ∙ t) ∙ none_holds Wall)
+      shut_wall t = sym (passed_by _ Spare _ Wall (ap not (sym e ∙ f)) ∙ passed_by _ Shut _ Wall (ap not (sym p ∙ t)) ∙ none_holds Wall)

@@ -1,4 +1,6 @@
 // Whether the blocked and the allowed mover pass a set of placements, and the verdict on a set that leaves the blocked one no route.
+#![tactic(auto)]
+
 ghost use Rattle.std.specs.Prelude.{◌≡◌};
 ghost use Rattle.base_laws.specs.Lists.{is_some};
 ghost use Rattle.ground_rects.specs.Windows.{centres};
