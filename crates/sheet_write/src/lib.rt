@@ -1,4 +1,6 @@
 // A search's result, or a refusal, as text.
+#![tactic(auto)]
+
 ghost use Rattle.std.specs.Prelude.{◌≡◌, map, ◌+◌, ◌≤◌, length};
 ghost use Rattle.base_laws.specs.Lists.{below, flat};
 ghost use Rattle.base_model.specs.Answers.{refusal, said_of};
