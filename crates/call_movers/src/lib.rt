@@ -1,4 +1,6 @@
 // The last checks of begin: refusals 7, 8 and 9 for both movers, then 14 and 15.
+#![tactic(auto)]
+
 ghost use Rattle.std.specs.Prelude.{◌≡◌, true, ◌++◌, length};
 ghost use Rattle.base_model.specs.Answers.{first, reply_of};
 ghost use Rattle.rule_routes.specs.Edges.{steps_of};
