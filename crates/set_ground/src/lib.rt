@@ -1,4 +1,6 @@
 // The ground that a set of placements leaves.
+#![tactic(auto)]
+
 ghost use Rattle.std.specs.Prelude.{◌≡◌, replicate};
 ghost use Rattle.ground_rects.specs.Windows.{width, height, centres, centre_at};
 ghost use Rattle.rule_routes.specs.Edges.{eight_steps, window_edges};
