@@ -1,12 +1,12 @@
 -- The search record as fifty numbers: how it is laid, and read back.
 use Prim.Native.Nat.{ℕ, ◌+◌, ◌≤◌, ◌<◌}
-use mathlib.Core.Path.{◌≡◌, refl, sym, ◌∙◌, ap}
+use mathlib.Core.Path.{◌≡◌, refl, ◌∙◌, ap}
 use mathlib.Core.Bool.{Bool, true, false}
 use mathlib.Core.Option.{Option, none, some}
 use mathlib.Core.List.{List, ◌++◌, append_assoc}
 use native.Mathlib.Omega.{arith}
 use lib.Dec.{leb, eqb}
-use lib.ListN.{length, get_or, take, drop, length-append, length-drop, length-map}
+use lib.ListN.{length, get_or, take, drop, length-append, length-drop}
 use lib.Seq.{take_all, take_at, drop_at, drop-drop, length-take-le}
 use borrow.Author.Tests.{leb-true, leb-false, lt-leb, le-leb}
 use mir.Val.{Val}
@@ -52,9 +52,9 @@ in_whole ns h k = rw (le-leb 50 (length ns) h, le-leb (get_or ns 5 0) 1 k, recor
 -- the arrays have the lengths that their types say
 pub record_shape : (r : Record) (vs : List Val) → Is Recordᵀ.the_row r vs → Shape r
 record_shape r vs g = record {
-  routes = sym (length-map r.routes (λ (v : ℕ). v)) ∙ g.1.1.1.1.1.1.1.1.0.1.0.1;
-  lengths = sym (length-map r.lengths (λ (v : ℕ). v)) ∙ g.1.1.1.1.1.1.1.1.1.0.1.0.1;
-  nexts = sym (length-map r.nexts (λ (v : ℕ). v)) ∙ g.1.1.1.1.1.1.1.1.1.1.0.1.0.1;
+  routes = g.1.1.1.1.1.1.1.1.0.1.0.1;
+  lengths = g.1.1.1.1.1.1.1.1.1.0.1.0.1;
+  nexts = g.1.1.1.1.1.1.1.1.1.1.0.1.0.1;
 }
 
 -- a row copied into the part that is lent after the rows before it

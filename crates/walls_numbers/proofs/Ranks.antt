@@ -2,7 +2,6 @@
 use Prim.Native.Nat.{ℕ}
 use mathlib.Core.Path.{◌≡◌, refl}
 use mathlib.Core.List.{List, [], ◌∷◌, map}
-use lib.IntN.{pos}
 use Rattle.base_model.specs.declared.Rank.{Rank}
 use Rattle.rule_ranks.proofs.Rows.{computing, site, box, three}
 use Rattle.walls_numbers.specs.Numbers.{one_where}
