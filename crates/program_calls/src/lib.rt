@@ -195,13 +195,10 @@ pub fn step_all<W: Write>(
     points: &mut Points,
 ) -> io::Result<Record> {
     let mut rec = first;
-    let mut k = 0;
-    while k < portions.len() {
-        let n = portions[k];
-        k = k + 1;
+    for n in portions {
         rec = step_by(
             out,
-            n,
+            *n,
             head,
             groups,
             numbers,
@@ -293,8 +290,7 @@ pub fn read_all<W: Write>(
     layouts: &[u16],
     points: &[u32],
 ) -> io::Result<()> {
-    let mut k = 0u32;
-    while k < READINGS {
+    for k in 0..READINGS {
         read_one(
             out, k, head, groups, numbers, edges, block, allow, rec, lists, visited, layouts,
             points,
@@ -302,7 +298,6 @@ pub fn read_all<W: Write>(
         if rec.layouts <= k {
             return Ok(());
         }
-        k = k + 1;
     }
     Ok(())
 }
@@ -372,8 +367,7 @@ pub fn judge_all<W: Write>(
     predecessors: &mut Centres,
     route: &mut Centres,
 ) -> io::Result<()> {
-    let mut k = 0u32;
-    while k < n {
+    for k in 0..n {
         let set = answers::members(rows, k as usize);
         judge_one(
             out,
@@ -391,7 +385,6 @@ pub fn judge_all<W: Write>(
             predecessors,
             route,
         )?;
-        k = k + 1;
     }
     Ok(())
 }

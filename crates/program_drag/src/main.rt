@@ -72,10 +72,8 @@ fn wide(x: u8) -> u32 {
 
 // Prints one row of counts.
 fn show_row<W: Write>(out: &mut W, row: &[u8]) -> io::Result<()> {
-    let mut i = 0;
-    while i < row.len() {
-        say::number(out, wide(row[i]))?;
-        i += 1;
+    for count in row {
+        say::number(out, wide(*count))?;
     }
     say::end(out)
 }
@@ -83,12 +81,10 @@ fn show_row<W: Write>(out: &mut W, row: &[u8]) -> io::Result<()> {
 // Prints the counts row by row.
 fn show_counts<W: Write>(out: &mut W, baseline: &Baseline) -> io::Result<()> {
     let counts = &baseline[..];
-    let mut row = 0;
-    while row < HEIGHT {
+    for row in 0..HEIGHT {
         let from = row * WIDTH;
         let to = from + WIDTH;
         show_row(out, &counts[from..to])?;
-        row += 1;
     }
     Ok(())
 }
