@@ -1,13 +1,13 @@
 -- Checks 1 to 6 one after the other: each is answered where those before it pass.
 use mathlib.Core.Path.{◌≡◌, refl, sym, ap₂, ◌∙◌}
-use mathlib.Core.Bool.{Bool, true, false, not, ◌&&◌}
+use mathlib.Core.Bool.{Bool, true, false, ◌&&◌}
 use mathlib.Core.Option.{none, some}
 use mathlib.Core.List.{List}
 use Prim.Native.Nat.{ℕ, ◌*◌, ◌≤◌, ◌<◌}
 use native.Mathlib.Omega.{arith}
 use lib.Dec.{leb}
 use lib.ListN.{length}
-use borrow.Author.Tests.{le-leb, lt-leb, not-true, not-false}
+use borrow.Author.Tests.{le-leb, lt-leb}
 use Rattle.base_laws.specs.Lists.{all_of}
 use Rattle.base_model.specs.Answers.{refusal, ask, first}
 use Rattle.base_model.specs.declared.Rect.{Rect}
@@ -18,11 +18,11 @@ use Rattle.rule_calls.specs.Areas.{Work, work_fits}
 use Rattle.rule_calls.specs.Calls.{Preparation, prepare_checks}
 
 -- an answer that is a condition says whether it holds
-pub held : {r x : Bool} → r ≡ x → not r ≡ false → x ≡ true
-held {r} e k = sym e ∙ not-false r k
+pub held : {r x : Bool} → r ≡ x → r ≡ true → x ≡ true
+held e k = sym e ∙ k
 
-pub failed : {r x : Bool} → r ≡ x → not r ≡ true → x ≡ false
-failed {r} e k = sym e ∙ not-true r k
+pub failed : {r x : Bool} → r ≡ x → r ≡ false → x ≡ false
+failed e k = sym e ∙ k
 
 -- whether a baseline of n bytes has one for each centre of a window of x columns and h rows
 module _ (w : Rect) (x h n : ℕ) (baseline : List ℕ) (across : x ≡ width w) (down : h ≡ height w) (long : length baseline ≡ n) where

@@ -1,4 +1,6 @@
 // Preparing a mover: its baseline from terrain and obstacles, and whether it passes from start to end.
+#![tactic(auto)]
+
 ghost use Rattle.std.specs.Prelude.{◌≡◌, List, ℕ, length};
 ghost use Rattle.std.proofs.Math.Option.{none};
 ghost use Rattle.base_model.specs.Answers.{first, reply_of};
