@@ -50,7 +50,9 @@ pub returns-then-not-nonempty : goal.returns-then-not-nonempty
 unfolding reply_of said_of
 returns-then-not-nonempty c =
     let a = c.args in
-    rectangle_refused a.window a.mover a.rect (allows a.change) (made a.change) a.baseline.now (sym c.window_fits.ensures ∙ c.if-not-window_fits.false) (sym c.small.ensures ∙ c.if-not-small.false) (omega (arith, count c.args.window _ _ c.width-width.ensures.0 c.height.ensures.0, c.if-baseline-width.false))
+    rectangle_refused a.window a.mover a.rect (allows a.change) (made a.change) a.baseline.now
+    (sym c.window_fits.ensures ∙ c.if-not-window_fits.false) (sym c.small.ensures ∙ c.if-not-small.false)
+    (omega (arith, count c.args.window _ _ c.width-width.ensures.0 c.height.ensures.0, c.if-baseline-width.false))
     (sym c.nonempty.ensures ∙ c.if-not-nonempty.true)
 
 pub clip-span-requires : goal.clip-span-requires
@@ -60,23 +62,28 @@ clip-span-requires c =
 pub span_allows-requires : goal.span_allows-requires
 span_allows-requires c =
     let a = c.args in
-    span_fits a.window a.mover a.rect a.baseline.now (sym c.window_fits.ensures ∙ c.if-not-window_fits.false) (omega (arith, count c.args.window _ _ c.width-width.ensures.0 c.height.ensures.0, c.if-baseline-width.false)) _
+    span_fits a.window a.mover a.rect a.baseline.now (sym c.window_fits.ensures ∙ c.if-not-window_fits.false)
+    (omega (arith, count c.args.window _ _ c.width-width.ensures.0 c.height.ensures.0, c.if-baseline-width.false)) _
     c.width-width.ensures.0 c.clip-span.result c.clip-span.ensures
 
 pub returns-then-not-span_allows : goal.returns-then-not-span_allows
 unfolding reply_of said_of
 returns-then-not-span_allows c =
     let a = c.args in
-    count_refused a.window a.mover a.rect (allows a.change) (made a.change) a.baseline.now (sym c.window_fits.ensures ∙ c.if-not-window_fits.false) (sym c.small.ensures ∙ c.if-not-small.false) (omega (arith, count c.args.window _ _ c.width-width.ensures.0 c.height.ensures.0, c.if-baseline-width.false))
+    count_refused a.window a.mover a.rect (allows a.change) (made a.change) a.baseline.now
+    (sym c.window_fits.ensures ∙ c.if-not-window_fits.false) (sym c.small.ensures ∙ c.if-not-small.false)
+    (omega (arith, count c.args.window _ _ c.width-width.ensures.0 c.height.ensures.0, c.if-baseline-width.false))
     (sym c.nonempty.ensures ∙ c.if-not-nonempty.false)
-    (may_not_change a.window a.mover a.rect a.baseline.now (sym c.window_fits.ensures ∙ c.if-not-window_fits.false) (omega (arith, count c.args.window _ _ c.width-width.ensures.0 c.height.ensures.0, c.if-baseline-width.false)) _
+    (may_not_change a.window a.mover a.rect a.baseline.now (sym c.window_fits.ensures ∙ c.if-not-window_fits.false)
+    (omega (arith, count c.args.window _ _ c.width-width.ensures.0 c.height.ensures.0, c.if-baseline-width.false)) _
     c.width-width.ensures.0 c.clip-span.result c.clip-span.ensures (allows a.change)
     (c.span_allows.ensures.no (c.if-not-span_allows.true)))
 
 pub change_span-requires : goal.change_span-requires
 change_span-requires c =
     let a = c.args in record {
-      span_fits = span_fits a.window a.mover a.rect a.baseline.now (sym c.window_fits.ensures ∙ c.if-not-window_fits.false) (omega (arith, count c.args.window _ _ c.width-width.ensures.0 c.height.ensures.0, c.if-baseline-width.false)) _
+      span_fits = span_fits a.window a.mover a.rect a.baseline.now (sym c.window_fits.ensures ∙ c.if-not-window_fits.false)
+          (omega (arith, count c.args.window _ _ c.width-width.ensures.0 c.height.ensures.0, c.if-baseline-width.false)) _
           c.width-width.ensures.0 c.clip-span.result c.clip-span.ensures;
       span_allows = c.span_allows.ensures.yes (c.if-not-span_allows.false);
     }
@@ -85,11 +92,15 @@ pub returns : goal.returns
 unfolding reply_of
 returns c =
     let a = c.args in
-    change_made a.window a.mover a.rect (allows a.change) (made a.change) a.baseline.now (sym c.window_fits.ensures ∙ c.if-not-window_fits.false) (sym c.small.ensures ∙ c.if-not-small.false) (omega (arith, count c.args.window _ _ c.width-width.ensures.0 c.height.ensures.0, c.if-baseline-width.false))
+    change_made a.window a.mover a.rect (allows a.change) (made a.change) a.baseline.now
+    (sym c.window_fits.ensures ∙ c.if-not-window_fits.false) (sym c.small.ensures ∙ c.if-not-small.false)
+    (omega (arith, count c.args.window _ _ c.width-width.ensures.0 c.height.ensures.0, c.if-baseline-width.false))
     (sym c.nonempty.ensures ∙ c.if-not-nonempty.false)
-    (may_change_lem a.window a.mover a.rect a.baseline.now (sym c.window_fits.ensures ∙ c.if-not-window_fits.false) (omega (arith, count c.args.window _ _ c.width-width.ensures.0 c.height.ensures.0, c.if-baseline-width.false)) _
+    (may_change_lem a.window a.mover a.rect a.baseline.now (sym c.window_fits.ensures ∙ c.if-not-window_fits.false)
+    (omega (arith, count c.args.window _ _ c.width-width.ensures.0 c.height.ensures.0, c.if-baseline-width.false)) _
     c.width-width.ensures.0 c.clip-span.result c.clip-span.ensures (allows a.change)
     (c.span_allows.ensures.yes (c.if-not-span_allows.false)))
     _
-    (is_changed a.window a.mover a.rect a.baseline.now (sym c.window_fits.ensures ∙ c.if-not-window_fits.false) (omega (arith, count c.args.window _ _ c.width-width.ensures.0 c.height.ensures.0, c.if-baseline-width.false)) _
+    (is_changed a.window a.mover a.rect a.baseline.now (sym c.window_fits.ensures ∙ c.if-not-window_fits.false)
+    (omega (arith, count c.args.window _ _ c.width-width.ensures.0 c.height.ensures.0, c.if-baseline-width.false)) _
     c.width-width.ensures.0 c.clip-span.result c.clip-span.ensures (made a.change) _ c.change_span.ensures)

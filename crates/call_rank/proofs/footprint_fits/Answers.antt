@@ -42,4 +42,6 @@ unfolding footprint_fits rect
 returns c =
     rw (sym c.nonempty.ensures ∙ c.if-not-nonempty.false)
     (c.holds.ensures
-    ∙ ap₂ (λ (x y : ℤ). holds (rect (pos 0) (pos 0) x y) c.args.footprint) (to_z_pos w32 (short ((sized c.args.across c.args.down c.requires).across_le))) (to_z_pos w32 (short ((sized c.args.across c.args.down c.requires).down_le))))
+    ∙ ap₂ (λ (x y : ℤ). holds (rect (pos 0) (pos 0) x y) c.args.footprint)
+    (to_z_pos w32 (short ((sized c.args.across c.args.down c.requires).across_le)))
+    (to_z_pos w32 (short ((sized c.args.across c.args.down c.requires).down_le))))

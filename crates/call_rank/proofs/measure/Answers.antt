@@ -63,7 +63,12 @@ module _ (s : Site) (r : Rect) (z : Sizes s r) (d p : Vector) (d_is : d ≡ segm
   projection_is t e = ap nat_abs (projected t e)
 
 pub dot-projection_twice-requires : goal.dot-projection_twice-requires
-dot-projection_twice-requires c = (point_short c.args.site c.args.footprint c.requires.1 c.segment-d.result c.from_first-point.result c.segment-d.ensures c.from_first-point.ensures, d_short c.args.site c.args.footprint c.requires.1 c.segment-d.result c.from_first-point.result c.segment-d.ensures c.from_first-point.ensures)
+dot-projection_twice-requires c = (
+  point_short c.args.site c.args.footprint c.requires.1 c.segment-d.result c.from_first-point.result c.segment-d.ensures
+      c.from_first-point.ensures,
+  d_short c.args.site c.args.footprint c.requires.1 c.segment-d.result c.from_first-point.result c.segment-d.ensures
+      c.from_first-point.ensures,
+)
 
 pub beside_end-requires : goal.beside_end-requires
 beside_end-requires c = (c.requires.0, point_short c.args.site c.args.footprint c.requires.1 c.segment-d.result c.from_first-point.result c.segment-d.ensures c.from_first-point.ensures)
@@ -71,41 +76,92 @@ beside_end-requires c = (c.requires.0, point_short c.args.site c.args.footprint 
 pub returns-then-projection_twice-le0 : goal.returns-then-projection_twice-le0
 returns-then-projection_twice-le0 c =
     c.beside_end.ensures ∙ ap (beside_end c.args.site.radius) c.from_first-point.ensures
-    ∙ sym (at_first c.args.site c.args.footprint (ap (λ (z : ℤ). le_z z (pos 0)) (sym (projected c.args.site c.args.footprint c.requires.1 c.segment-d.result c.from_first-point.result c.segment-d.ensures c.from_first-point.ensures c.dot-projection_twice.result c.dot-projection_twice.ensures)) ∙ c.if-projection_twice-le0.true))
+    ∙ sym (at_first c.args.site c.args.footprint
+    (ap (λ (z : ℤ). le_z z (pos 0))
+    (sym (projected c.args.site c.args.footprint c.requires.1 c.segment-d.result c.from_first-point.result c.segment-d.ensures
+    c.from_first-point.ensures c.dot-projection_twice.result c.dot-projection_twice.ensures)) ∙ c.if-projection_twice-le0.true))
 
 pub squared_length-squared-requires : goal.squared_length-squared-requires
 squared_length-squared-requires c = d_short c.args.site c.args.footprint c.requires.1 c.segment-d.result c.from_first-point.result c.segment-d.ensures c.from_first-point.ensures
 
 pub overflow_cast-projection_twice : goal.overflow_cast-projection_twice
 overflow_cast-projection_twice c =
-    rw (projected c.args.site c.args.footprint c.requires.1 c.segment-d.result c.from_first-point.result c.segment-d.ensures c.from_first-point.ensures c.dot-projection_twice.result c.dot-projection_twice.ensures, natural (projection_twice c.args.site c.args.footprint) (not_first c.args.site c.args.footprint c.requires.1 c.segment-d.result c.from_first-point.result c.segment-d.ensures c.from_first-point.ensures c.dot-projection_twice.result c.dot-projection_twice.ensures c.if-projection_twice-le0.false))
+    rw (
+      projected c.args.site c.args.footprint c.requires.1 c.segment-d.result c.from_first-point.result c.segment-d.ensures
+          c.from_first-point.ensures c.dot-projection_twice.result c.dot-projection_twice.ensures,
+      natural (projection_twice c.args.site c.args.footprint)
+          (not_first c.args.site c.args.footprint c.requires.1 c.segment-d.result c.from_first-point.result c.segment-d.ensures
+          c.from_first-point.ensures c.dot-projection_twice.result c.dot-projection_twice.ensures c.if-projection_twice-le0.false),
+    )
     (tt, record { fits = omega (arith, c.requires.1.projection) })
 
 pub overflow_mul-squared : goal.overflow_mul-squared
-overflow_mul-squared c = record { fits = omega (arith, squared_is c.args.site c.args.footprint c.requires.1 c.segment-d.result c.from_first-point.result c.segment-d.ensures c.from_first-point.ensures c.squared_length-squared.result c.squared_length-squared.ensures, c.requires.1.squared) }
+overflow_mul-squared c =
+    record {
+      fits = omega (
+        arith,
+        squared_is c.args.site c.args.footprint c.requires.1 c.segment-d.result c.from_first-point.result c.segment-d.ensures
+            c.from_first-point.ensures c.squared_length-squared.result c.squared_length-squared.ensures,
+        c.requires.1.squared,
+      );
+    }
 
 pub less_twice-requires : goal.less_twice-requires
-less_twice-requires c = (point_short c.args.site c.args.footprint c.requires.1 c.segment-d.result c.from_first-point.result c.segment-d.ensures c.from_first-point.ensures, d_short c.args.site c.args.footprint c.requires.1 c.segment-d.result c.from_first-point.result c.segment-d.ensures c.from_first-point.ensures)
+less_twice-requires c = (
+  point_short c.args.site c.args.footprint c.requires.1 c.segment-d.result c.from_first-point.result c.segment-d.ensures
+      c.from_first-point.ensures,
+  d_short c.args.site c.args.footprint c.requires.1 c.segment-d.result c.from_first-point.result c.segment-d.ensures
+      c.from_first-point.ensures,
+)
 
 pub beside_end-requires-then-projection_twice-squared : goal.beside_end-requires-then-projection_twice-squared
-beside_end-requires-then-projection_twice-squared c = (c.requires.0, rw (second_is c.args.site c.args.footprint c.requires.1 c.segment-d.result c.from_first-point.result c.segment-d.ensures c.from_first-point.ensures c.less_twice.result c.less_twice.ensures) c.requires.1.second_within)
+beside_end-requires-then-projection_twice-squared c = (
+  c.requires.0,
+  rw (second_is c.args.site c.args.footprint c.requires.1 c.segment-d.result c.from_first-point.result c.segment-d.ensures
+      c.from_first-point.ensures c.less_twice.result c.less_twice.ensures) c.requires.1.second_within,
+)
 
 pub returns-then-projection_twice-squared : goal.returns-then-projection_twice-squared
 returns-then-projection_twice-squared c =
     let far : 2 * squared_length (segment c.args.site) ≤ nat_abs (projection_twice c.args.site c.args.footprint) =
-    omega (arith, c.if-projection_twice-squared.true, squared_is c.args.site c.args.footprint c.requires.1 c.segment-d.result c.from_first-point.result c.segment-d.ensures c.from_first-point.ensures c.squared_length-squared.result c.squared_length-squared.ensures, projection_is c.args.site c.args.footprint c.requires.1 c.segment-d.result c.from_first-point.result c.segment-d.ensures c.from_first-point.ensures c.dot-projection_twice.result c.dot-projection_twice.ensures) in
-    let first = not_first c.args.site c.args.footprint c.requires.1 c.segment-d.result c.from_first-point.result c.segment-d.ensures c.from_first-point.ensures c.dot-projection_twice.result c.dot-projection_twice.ensures c.if-projection_twice-le0.false in
-    c.beside_end-then-projection_twice-squared.ensures ∙ ap (beside_end c.args.site.radius) (second_is c.args.site c.args.footprint c.requires.1 c.segment-d.result c.from_first-point.result c.segment-d.ensures c.from_first-point.ensures c.less_twice.result c.less_twice.ensures)
+    omega (
+      arith,
+      c.if-projection_twice-squared.true,
+      squared_is c.args.site c.args.footprint c.requires.1 c.segment-d.result c.from_first-point.result c.segment-d.ensures
+          c.from_first-point.ensures c.squared_length-squared.result c.squared_length-squared.ensures,
+      projection_is c.args.site c.args.footprint c.requires.1 c.segment-d.result c.from_first-point.result c.segment-d.ensures
+          c.from_first-point.ensures c.dot-projection_twice.result c.dot-projection_twice.ensures,
+    ) in
+    let first = not_first c.args.site c.args.footprint c.requires.1 c.segment-d.result c.from_first-point.result c.segment-d.ensures
+    c.from_first-point.ensures c.dot-projection_twice.result c.dot-projection_twice.ensures c.if-projection_twice-le0.false in
+    c.beside_end-then-projection_twice-squared.ensures
+    ∙ ap (beside_end c.args.site.radius)
+    (second_is c.args.site c.args.footprint c.requires.1 c.segment-d.result c.from_first-point.result c.segment-d.ensures
+    c.from_first-point.ensures c.less_twice.result c.less_twice.ensures)
     ∙ sym (at_second c.args.site c.args.footprint first (at_least _ (projection_twice c.args.site c.args.footprint) first far))
 
 pub cross-requires : goal.cross-requires
-cross-requires c = (point_short c.args.site c.args.footprint c.requires.1 c.segment-d.result c.from_first-point.result c.segment-d.ensures c.from_first-point.ensures, d_short c.args.site c.args.footprint c.requires.1 c.segment-d.result c.from_first-point.result c.segment-d.ensures c.from_first-point.ensures)
+cross-requires c = (
+  point_short c.args.site c.args.footprint c.requires.1 c.segment-d.result c.from_first-point.result c.segment-d.ensures
+      c.from_first-point.ensures,
+  d_short c.args.site c.args.footprint c.requires.1 c.segment-d.result c.from_first-point.result c.segment-d.ensures
+      c.from_first-point.ensures,
+)
 
 pub square-requires : goal.square-requires
-square-requires c = rw (crossed c.args.site c.args.footprint c.requires.1 c.segment-d.result c.from_first-point.result c.segment-d.ensures c.from_first-point.ensures c.cross.result c.cross.ensures) c.requires.1.crossing
+square-requires c = rw (crossed c.args.site c.args.footprint c.requires.1 c.segment-d.result c.from_first-point.result c.segment-d.ensures
+    c.from_first-point.ensures c.cross.result c.cross.ensures) c.requires.1.crossing
 
 pub overflow_mul-result : goal.overflow_mul-result
-overflow_mul-result c = record { fits = omega (arith, squared_is c.args.site c.args.footprint c.requires.1 c.segment-d.result c.from_first-point.result c.segment-d.ensures c.from_first-point.ensures c.squared_length-squared.result c.squared_length-squared.ensures, c.requires.1.squared) }
+overflow_mul-result c =
+    record {
+      fits = omega (
+        arith,
+        squared_is c.args.site c.args.footprint c.requires.1 c.segment-d.result c.from_first-point.result c.segment-d.ensures
+            c.from_first-point.ensures c.squared_length-squared.result c.squared_length-squared.ensures,
+        c.requires.1.squared,
+      );
+    }
 
 pub overflow_mul-result-2 : goal.overflow_mul-result-2
 overflow_mul-result-2 c = record { fits = omega (arith, mul-le-mul c.requires.0 c.requires.0) }
@@ -115,7 +171,13 @@ overflow_mul-result-3 c = record { fits = omega (arith, mul-le-mul c.requires.0 
 
 pub overflow_mul-result-4 : goal.overflow_mul-result-4
 overflow_mul-result-4 c =
-    let squared_le : c.squared_length-squared.result ≤ 134217728 = omega (arith, squared_is c.args.site c.args.footprint c.requires.1 c.segment-d.result c.from_first-point.result c.segment-d.ensures c.from_first-point.ensures c.squared_length-squared.result c.squared_length-squared.ensures, c.requires.1.squared) in
+    let squared_le : c.squared_length-squared.result ≤ 134217728 =
+    omega (
+      arith,
+      squared_is c.args.site c.args.footprint c.requires.1 c.segment-d.result c.from_first-point.result c.segment-d.ensures
+          c.from_first-point.ensures c.squared_length-squared.result c.squared_length-squared.ensures,
+      c.requires.1.squared,
+    ) in
     record { fits = omega (arith, mul-le-mul (mul-le-mul c.requires.0 c.requires.0) squared_le) }
 
 pub returns : goal.returns
@@ -123,7 +185,20 @@ unfolding between_ends
 returns c =
     let r = c.args.site.radius in
     let near : nat_abs (projection_twice c.args.site c.args.footprint) < 2 * squared_length (segment c.args.site) =
-    omega (arith, c.if-projection_twice-squared.false, squared_is c.args.site c.args.footprint c.requires.1 c.segment-d.result c.from_first-point.result c.segment-d.ensures c.from_first-point.ensures c.squared_length-squared.result c.squared_length-squared.ensures, projection_is c.args.site c.args.footprint c.requires.1 c.segment-d.result c.from_first-point.result c.segment-d.ensures c.from_first-point.ensures c.dot-projection_twice.result c.dot-projection_twice.ensures) in
-    let first = not_first c.args.site c.args.footprint c.requires.1 c.segment-d.result c.from_first-point.result c.segment-d.ensures c.from_first-point.ensures c.dot-projection_twice.result c.dot-projection_twice.ensures c.if-projection_twice-le0.false in
-    ap₂ (λ (n l : ℕ). record { numerator = n; divisor = 4 * l; limit = 4 * (r * r) * l }) (c.square.ensures ∙ ap square (crossed c.args.site c.args.footprint c.requires.1 c.segment-d.result c.from_first-point.result c.segment-d.ensures c.from_first-point.ensures c.cross.result c.cross.ensures)) (squared_is c.args.site c.args.footprint c.requires.1 c.segment-d.result c.from_first-point.result c.segment-d.ensures c.from_first-point.ensures c.squared_length-squared.result c.squared_length-squared.ensures)
+    omega (
+      arith,
+      c.if-projection_twice-squared.false,
+      squared_is c.args.site c.args.footprint c.requires.1 c.segment-d.result c.from_first-point.result c.segment-d.ensures
+          c.from_first-point.ensures c.squared_length-squared.result c.squared_length-squared.ensures,
+      projection_is c.args.site c.args.footprint c.requires.1 c.segment-d.result c.from_first-point.result c.segment-d.ensures
+          c.from_first-point.ensures c.dot-projection_twice.result c.dot-projection_twice.ensures,
+    ) in
+    let first = not_first c.args.site c.args.footprint c.requires.1 c.segment-d.result c.from_first-point.result c.segment-d.ensures
+    c.from_first-point.ensures c.dot-projection_twice.result c.dot-projection_twice.ensures c.if-projection_twice-le0.false in
+    ap₂ (λ (n l : ℕ). record { numerator = n; divisor = 4 * l; limit = 4 * (r * r) * l })
+    (c.square.ensures ∙ ap square
+    (crossed c.args.site c.args.footprint c.requires.1 c.segment-d.result c.from_first-point.result c.segment-d.ensures
+    c.from_first-point.ensures c.cross.result c.cross.ensures))
+    (squared_is c.args.site c.args.footprint c.requires.1 c.segment-d.result c.from_first-point.result c.segment-d.ensures
+    c.from_first-point.ensures c.squared_length-squared.result c.squared_length-squared.ensures)
     ∙ sym (at_between c.args.site c.args.footprint first (below _ (projection_twice c.args.site c.args.footprint) first near))

@@ -77,32 +77,38 @@ returns-then-not-footprint_fits c =
 pub measure-m-requires : goal.measure-m-requires
 measure-m-requires c = let a = c.args in (
   (let a = c.args in
-      passed a.across a.down a.site a.footprint (sym c.size_fits.ensures ∙ c.if-not-size_fits.false) (sym c.site_fits.ensures ∙ c.if-not-site_fits.false) (sym c.footprint_fits.ensures ∙ c.if-not-footprint_fits.false)).radius,
+      passed a.across a.down a.site a.footprint (sym c.size_fits.ensures ∙ c.if-not-size_fits.false)
+      (sym c.site_fits.ensures ∙ c.if-not-site_fits.false) (sym c.footprint_fits.ensures ∙ c.if-not-footprint_fits.false)).radius,
   sizes a.site a.footprint (let a = c.args in
-      passed a.across a.down a.site a.footprint (sym c.size_fits.ensures ∙ c.if-not-size_fits.false) (sym c.site_fits.ensures ∙ c.if-not-site_fits.false) (sym c.footprint_fits.ensures ∙ c.if-not-footprint_fits.false)),
+      passed a.across a.down a.site a.footprint (sym c.size_fits.ensures ∙ c.if-not-size_fits.false)
+      (sym c.site_fits.ensures ∙ c.if-not-site_fits.false) (sym c.footprint_fits.ensures ∙ c.if-not-footprint_fits.false)),
 )
 
 pub returns-then-m : goal.returns-then-m
 unfolding ranking_of
 returns-then-m c =
     let a = c.args in
-    is_beyond a.across a.down a.site a.footprint (sym c.size_fits.ensures ∙ c.if-not-size_fits.false) (sym c.site_fits.ensures ∙ c.if-not-site_fits.false) (sym c.footprint_fits.ensures ∙ c.if-not-footprint_fits.false)
+    is_beyond a.across a.down a.site a.footprint (sym c.size_fits.ensures ∙ c.if-not-size_fits.false)
+    (sym c.site_fits.ensures ∙ c.if-not-site_fits.false) (sym c.footprint_fits.ensures ∙ c.if-not-footprint_fits.false)
     (rw (← c.measure-m.ensures) c.if-m.true)
 
 pub nonzero_div-rank : goal.nonzero_div-rank
 nonzero_div-rank c = (let a = c.args in
     rw c.measure-m.ensures (sizes a.site a.footprint (let a = c.args in
-    passed a.across a.down a.site a.footprint (sym c.size_fits.ensures ∙ c.if-not-size_fits.false) (sym c.site_fits.ensures ∙ c.if-not-site_fits.false) (sym c.footprint_fits.ensures ∙ c.if-not-footprint_fits.false))).divided)
+    passed a.across a.down a.site a.footprint (sym c.size_fits.ensures ∙ c.if-not-size_fits.false)
+    (sym c.site_fits.ensures ∙ c.if-not-site_fits.false) (sym c.footprint_fits.ensures ∙ c.if-not-footprint_fits.false))).divided)
 
 pub nonzero_rem-rank : goal.nonzero_rem-rank
 nonzero_rem-rank c = (let a = c.args in
     rw c.measure-m.ensures (sizes a.site a.footprint (let a = c.args in
-    passed a.across a.down a.site a.footprint (sym c.size_fits.ensures ∙ c.if-not-size_fits.false) (sym c.site_fits.ensures ∙ c.if-not-site_fits.false) (sym c.footprint_fits.ensures ∙ c.if-not-footprint_fits.false))).divided)
+    passed a.across a.down a.site a.footprint (sym c.size_fits.ensures ∙ c.if-not-size_fits.false)
+    (sym c.site_fits.ensures ∙ c.if-not-site_fits.false) (sym c.footprint_fits.ensures ∙ c.if-not-footprint_fits.false))).divided)
 
 pub returns : goal.returns
 unfolding ranking_of rank_of
 returns c =
     let a = c.args in
-    is_ranked a.across a.down a.site a.footprint (sym c.size_fits.ensures ∙ c.if-not-size_fits.false) (sym c.site_fits.ensures ∙ c.if-not-site_fits.false) (sym c.footprint_fits.ensures ∙ c.if-not-footprint_fits.false)
+    is_ranked a.across a.down a.site a.footprint (sym c.size_fits.ensures ∙ c.if-not-size_fits.false)
+    (sym c.site_fits.ensures ∙ c.if-not-site_fits.false) (sym c.footprint_fits.ensures ∙ c.if-not-footprint_fits.false)
     (rw (← c.measure-m.ensures) c.if-m.false)
     ∙ ap (λ (m : Measure). ranks (rank_of m)) (sym c.measure-m.ensures)

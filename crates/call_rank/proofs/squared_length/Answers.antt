@@ -20,7 +20,15 @@ square-requires-2 c = rw (short c.args.v.y c.requires.y) (omega (arith, c.requir
 
 pub overflow_add-result : goal.overflow_add-result
 overflow_add-result c =
-    record { fits = omega (arith, (c.square.ensures ∙ ap square (short c.args.v.x c.requires.x)), (c.square-2.ensures ∙ ap square (short c.args.v.y c.requires.y)), square_le c.args.v.x 16384 c.requires.x, square_le c.args.v.y 16384 c.requires.y) }
+    record {
+      fits = omega (
+        arith,
+        (c.square.ensures ∙ ap square (short c.args.v.x c.requires.x)),
+        (c.square-2.ensures ∙ ap square (short c.args.v.y c.requires.y)),
+        square_le c.args.v.x 16384 c.requires.x,
+        square_le c.args.v.y 16384 c.requires.y,
+      );
+    }
 
 pub returns : goal.returns
 unfolding squared_length

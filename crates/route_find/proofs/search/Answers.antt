@@ -24,10 +24,22 @@ bounds-queue-head c = let t = reached_le _ _ _ _ _ _ _ _ _ c.loop-head.invariant
 pub returns-then-u-end : goal.returns-then-u-end
 unfolding search_from
 returns-then-u-end c =
-    let i = looping_at _ _ _ _ _ _ c.requires.search_lent _ _ _ _ c.loop-head.invariant in record { search_left = left _ _ _ _ _ _ _ _ _ i.searching; by_index = searching_stop _ _ _ _ _ _ _ _ _ i.searching c.loop-head-test.true _ c.index-u.ensures c.if-u-end.true }
+    let i = looping_at _ _ _ _ _ _ c.requires.search_lent _ _ _ _ c.loop-head.invariant in
+    record {
+      search_left = left _ _ _ _ _ _ _ _ _ i.searching;
+      by_index =
+          searching_stop _ _ _ _ _ _ _ _ _ i.searching c.loop-head-test.true _ c.index-u.ensures c.if-u-end.true;
+    }
 
 pub expand-tail-requires : goal.expand-tail-requires
-expand-tail-requires c = record { window = c.requires.window; u_bound = node_below _ _ _ _ _ _ _ _ _ c.loop-head.invariant.searching c.loop-head-test.true _ c.index-u.ensures; search_room = c.loop-head.invariant.searching.sim.room }
+expand-tail-requires c =
+    record {
+      window = c.requires.window;
+      u_bound =
+          node_below _ _ _ _ _ _ _ _ _ c.loop-head.invariant.searching c.loop-head-test.true _ c.index-u.ensures;
+      search_room =
+          c.loop-head.invariant.searching.sim.room;
+    }
 
 pub overflow_add-head : goal.overflow_add-head
 overflow_add-head c =
@@ -49,4 +61,9 @@ loop-head-preserved c =
 pub returns : goal.returns
 unfolding search_from
 returns c =
-    let i = looping_at _ _ _ _ _ _ c.requires.search_lent _ _ _ _ c.loop-head.invariant in record { search_left = left _ _ _ _ _ _ _ _ _ i.searching; by_index = searching_done _ _ _ _ _ _ _ _ _ i.searching c.loop-head-test.false }
+    let i = looping_at _ _ _ _ _ _ c.requires.search_lent _ _ _ _ c.loop-head.invariant in
+    record {
+      search_left = left _ _ _ _ _ _ _ _ _ i.searching;
+      by_index =
+          searching_done _ _ _ _ _ _ _ _ _ i.searching c.loop-head-test.false;
+    }

@@ -43,7 +43,14 @@ pub route_positions-requires : goal.route_positions-requires
 route_positions-requires c =
     let e : c.kept_points-old.result ≡ total (take c.args.rec.layouts c.args.rec.routes) =
     c.kept_points-old.ensures
-    ∙ ap (λ (j : ℕ). total (take j c.args.rec.routes)) c.bounded-j.ensures.0 in record { window_value = c.requires.fits; n_in_bounds = (let s = c.requires.space (omega (arith, c.if-old-k-gt-POINTS.false)) in omega arith, c.requires.long); by_index = c.requires.named }
+    ∙ ap (λ (j : ℕ). total (take j c.args.rec.routes)) c.bounded-j.ensures.0 in
+    record {
+      window_value = c.requires.fits;
+      n_in_bounds =
+          (let s = c.requires.space (omega (arith, c.if-old-k-gt-POINTS.false)) in omega arith, c.requires.long);
+      by_index =
+          c.requires.named;
+    }
 
 pub returns : goal.returns
 unfolding listed

@@ -18,7 +18,13 @@ pub blocked_for-requires : goal.blocked_for-requires
 blocked_for-requires c =
     let p = c.requires in
     let w = c.args.query.window in
-    let z = all_length 0 (centres w) p.map_clear in record { ground = record { some = (framed 8192 8192 w p.fits).filled; slim = p.moving.slim; bytes = z }; map_in_bounds = omega (arith, p.moving.bytes); named = p.moving.named }
+    let z = all_length 0 (centres w) p.map_clear in
+    record {
+      ground = record { some = (framed 8192 8192 w p.fits).filled; slim = p.moving.slim; bytes = z };
+      map_in_bounds =
+          omega (arith, p.moving.bytes);
+      named = p.moving.named;
+    }
 
 pub width-width-requires : goal.width-width-requires
 width-width-requires c =

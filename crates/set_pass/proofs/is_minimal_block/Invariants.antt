@@ -9,7 +9,8 @@ use Rattle.set_pass.proofs.is_minimal_block.Given as goal
 
 abbrev pub invariant-loop-k : goal.invariant-loop-k
 invariant-loop-k l =
-    Lifting l.window (steps_of l.steps) l.start l.end (mover_in l.window l.edges l.mover l.base) l.set l.initial.map l.initial.queue l.initial.predecessors l.initial.route l.map l.queue l.predecessors l.route l.k
+    Lifting l.window (steps_of l.steps) l.start l.end (mover_in l.window l.edges l.mover l.base) l.set l.initial.map l.initial.queue
+    l.initial.predecessors l.initial.route l.map l.queue l.predecessors l.route l.k
 
 abbrev pub decreases-loop-k : goal.decreases-loop-k
 decreases-loop-k l = length l.set - l.k

@@ -14,4 +14,12 @@ lets_pass-requires c = c.requires
 pub returns : goal.returns
 returns c =
     let a = c.args in
-    let m = mover_in a.window a.edges.now a.mover a.base.now in record { value = c.lets_pass.ensures.value ∙ ap (λ s. is_some (passed a.window (steps_of a.steps.now) a.start a.end m s)) (whole a.set.now); areas_kept = c.lets_pass.ensures.areas_kept; map_after = c.lets_pass.ensures.map_after ∙ ap (blocked_map m (centres a.window)) (whole a.set.now) }
+    let m = mover_in a.window a.edges.now a.mover a.base.now in
+    record {
+      value = c.lets_pass.ensures.value
+          ∙ ap (λ s. is_some (passed a.window (steps_of a.steps.now) a.start a.end m s)) (whole a.set.now);
+      areas_kept =
+          c.lets_pass.ensures.areas_kept;
+      map_after = c.lets_pass.ensures.map_after
+          ∙ ap (blocked_map m (centres a.window)) (whole a.set.now);
+    }

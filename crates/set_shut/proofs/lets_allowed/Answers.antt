@@ -26,4 +26,15 @@ clear_u32-requires c =
 
 pub returns : goal.returns
 returns c =
-    let w = free_wiped c.allowed_route.ensures.allowed c.in-Free.k c.in-Free.is (centres c.args.window) c.requires.route_lent.route_clear c.allowed_route.auto.route in record { value = free_is c.allowed_route.ensures.allowed c.in-Free.k c.in-Free.is; areas_kept = record { queue_kept = c.allowed_route.ensures.search_restored.queue_same; predecessors_kept = c.allowed_route.ensures.search_restored.predecessors_same; route_kept = c.clear_u32.ensures ∙ w.clear } }
+    let w = free_wiped c.allowed_route.ensures.allowed c.in-Free.k c.in-Free.is (centres c.args.window) c.requires.route_lent.route_clear
+    c.allowed_route.auto.route in
+    record {
+      value = free_is c.allowed_route.ensures.allowed c.in-Free.k c.in-Free.is;
+      areas_kept =
+          record {
+            queue_kept = c.allowed_route.ensures.search_restored.queue_same;
+            predecessors_kept =
+                c.allowed_route.ensures.search_restored.predecessors_same;
+            route_kept = c.clear_u32.ensures ∙ w.clear;
+          };
+    }

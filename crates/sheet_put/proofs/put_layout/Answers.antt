@@ -21,14 +21,24 @@ pub put_points-d-requires : goal.put_points-d-requires
 put_points-d-requires c =
     let a = c.put-a.ensures in
     let b = c.put_members-b.ensures in
-    let d = c.put-c.ensures in record { route_len = c.requires.route_len; route_in_bounds = points_room_lem c.args.k c.args.row.now c.args.route.now c.args.out.now c.args.at c.requires.route_in_bounds _ _ a _ _ b _ _ d }
+    let d = c.put-c.ensures in
+    record {
+      route_len = c.requires.route_len;
+      route_in_bounds =
+          points_room_lem c.args.k c.args.row.now c.args.route.now c.args.out.now c.args.at c.requires.route_in_bounds _ _ a _ _ b _ _ d;
+    }
 
 pub put-requires : goal.put-requires
 put-requires c =
     let a = c.put-a.ensures in
     let b = c.put_members-b.ensures in
     let d = c.put-c.ensures in
-    let e = c.put_points-d.ensures in record { fact = refl; values_in_bounds = closing_room c.args.k c.args.row.now c.args.route.now c.args.out.now c.args.at c.requires.route_in_bounds _ _ a _ _ b _ _ d _ _ e }
+    let e = c.put_points-d.ensures in
+    record {
+      fact = refl;
+      values_in_bounds =
+          closing_room c.args.k c.args.row.now c.args.route.now c.args.out.now c.args.at c.requires.route_in_bounds _ _ a _ _ b _ _ d _ _ e;
+    }
 
 pub returns : goal.returns
 returns c =

@@ -9,7 +9,8 @@ use Rattle.sheet_put.proofs.put_point.Goals as goal
 
 pub put-requires : goal.put-requires
 put-requires c =
-    let e = point_first c.args.k c.args.x c.args.y c.if-k-eq0.true in record { fact = (omega arith, (omega arith, refl)); values_in_bounds = room_as _ _ c.args.at (length c.args.out.now) e c.requires }
+    let e = point_first c.args.k c.args.x c.args.y c.if-k-eq0.true in
+    record { fact = (omega arith, (omega arith, refl)); values_in_bounds = room_as _ _ c.args.at (length c.args.out.now) e c.requires }
 
 pub returns-then-k-eq0 : goal.returns-then-k-eq0
 returns-then-k-eq0 c =
@@ -18,7 +19,8 @@ returns-then-k-eq0 c =
 
 pub put-requires-2 : goal.put-requires-2
 put-requires-2 c =
-    let e = point_later c.args.k c.args.x c.args.y c.if-k-eq0.false in record { fact = (omega arith, (omega arith, refl)); values_in_bounds = room_as _ _ c.args.at (length c.args.out.now) e c.requires }
+    let e = point_later c.args.k c.args.x c.args.y c.if-k-eq0.false in
+    record { fact = (omega arith, (omega arith, refl)); values_in_bounds = room_as _ _ c.args.at (length c.args.out.now) e c.requires }
 
 pub returns : goal.returns
 returns c =

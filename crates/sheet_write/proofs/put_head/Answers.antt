@@ -9,7 +9,12 @@ use Rattle.sheet_write.proofs.put_head.Goals as goal
 
 pub put-requires : goal.put-requires
 put-requires c =
-    let e = head_exhausted c.args.reason c.args.evaluations c.args.placements c.args.layouts c.if-reason-eq-EXHAUSTED.true in record { fact = (omega arith, (omega arith, (omega arith, refl))); values_in_bounds = room_as _ _ 0 (length c.args.out.now) e (omega arith) }
+    let e = head_exhausted c.args.reason c.args.evaluations c.args.placements c.args.layouts c.if-reason-eq-EXHAUSTED.true in
+    record {
+      fact = (omega arith, (omega arith, (omega arith, refl)));
+      values_in_bounds =
+          room_as _ _ 0 (length c.args.out.now) e (omega arith);
+    }
 
 pub returns-then-reason-eq-EXHAUSTED : goal.returns-then-reason-eq-EXHAUSTED
 returns-then-reason-eq-EXHAUSTED c =
@@ -38,7 +43,12 @@ returns-then-reason-gt-STATE_LIMIT c =
 
 pub put-requires-2 : goal.put-requires-2
 put-requires-2 c =
-    let e = head_running c.args.reason c.args.evaluations c.args.placements c.args.layouts (omega arith) in record { fact = (omega arith, (omega arith, (omega arith, refl))); values_in_bounds = room_as _ _ 0 (length c.args.out.now) e (omega arith) }
+    let e = head_running c.args.reason c.args.evaluations c.args.placements c.args.layouts (omega arith) in
+    record {
+      fact = (omega arith, (omega arith, (omega arith, refl)));
+      values_in_bounds =
+          room_as _ _ 0 (length c.args.out.now) e (omega arith);
+    }
 
 pub returns : goal.returns
 returns c =

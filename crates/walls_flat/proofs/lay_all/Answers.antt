@@ -1,3 +1,4 @@
+-- The answers to the goals of `walls_flat::lay_all`.
 use native.Mathlib.Omega.{arith}
 use Rattle.ground_rects.specs.Rects.{rect}
 use Rattle.rule_layouts.specs.Inputs.{no_place}

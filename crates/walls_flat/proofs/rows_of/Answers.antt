@@ -1,3 +1,4 @@
+-- The answers to the goals of `walls_flat::rows_of`.
 use mathlib.Core.Path.{◌∙◌, ap}
 use mathlib.Core.List.{List, ◌++◌, map}
 use Prim.Native.Nat.{ℕ, ◌*◌}
