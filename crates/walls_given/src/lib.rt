@@ -1,4 +1,6 @@
 // What the calls are given as numbers: the query, and how much of the visited area is lent on.
+#![tactic(auto)]
+
 ghost use Rattle.std.specs.Prelude.{◌≡◌};
 ghost use Rattle.walls_numbers.specs.Numbers.{allow_from, query_from};
 ghost use Rattle.walls_numbers.specs.Lent.{lent_of};
