@@ -12,7 +12,7 @@ use Rattle.base_model.specs.declared.Query.{Query}
 use Rattle.rule_routes.specs.Edges.{Step}
 use Rattle.rule_routes.proofs.RouteTheorem.{route_blocked}
 use Rattle.rule_layouts.specs.Boards.{Mover, Board, leaves_open, open_ends, route_past}
-use Rattle.rule_layouts.specs.Explore.{Outcome, Nothing, Extend, Wall, extensions, is_minimal_block, allowed_route, wall_by, explore}
+use Rattle.rule_layouts.specs.Explore.{Outcome, Nothing, Extend, extensions, is_minimal_block, allowed_route, wall_by, explore}
 use Rattle.route_find.specs.Results.{point_count, laid_into}
 use Rattle.set_extend.specs.Join.{ListWritten}
 use Rattle.set_board.specs.Board.{flat_board}

@@ -1,4 +1,6 @@
 // The evaluation of one set of placements.
+#![tactic(auto)]
+
 ghost use Rattle.std.specs.Prelude.{◌≡◌, List, ℕ, length};
 ghost use Rattle.std.proofs.Math.Option.{none};
 ghost use Rattle.ground_rects.specs.Windows.{centres};
