@@ -1,4 +1,6 @@
 // The search record as fifty numbers: read and laid.
+#![tactic(auto)]
+
 ghost use Rattle.std.specs.Prelude.{◌≡◌, ◌++◌, ◌≤◌, length, drop};
 ghost use Rattle.base_model.specs.Answers.{reply_of};
 ghost use Rattle.walls_numbers.specs.Numbers.{record_from, one_where, record_numbers};
