@@ -1,4 +1,6 @@
 // Beginning a search.
+#![tactic(auto)]
+
 ghost use Rattle.std.specs.Prelude.{◌≡◌};
 ghost use Rattle.std.proofs.Math.Option.{none};
 ghost use Rattle.base_model.specs.Answers.{first, reply_of};
