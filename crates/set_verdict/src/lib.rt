@@ -1,4 +1,6 @@
 // The verdict on a set of placements.
+#![tactic(auto)]
+
 ghost use Rattle.std.specs.Prelude.{◌≡◌, not, ◌&&◌, ◌/◌, ◌<◌, length};
 ghost use Rattle.ground_rects.specs.Windows.{centres};
 ghost use Rattle.rule_routes.specs.Edges.{steps_of};
