@@ -1,1 +1,2 @@
 // What the C functions promise together: definitions and proofs alone.
+#![tactic(auto)]
