@@ -23,7 +23,7 @@ use Rattle.rule_search.specs.State.{Running, Extensions, Layout, State, set_on, 
 use Rattle.rule_search.specs.Frames.{Plan, advance}
 use Rattle.rule_search.proofs.Moves.{held}
 use Rattle.rule_search.proofs.Formed.{lines_fit, length_set_on}
-use Rattle.rule_calls.specs.Areas.{Store, laid, row, numbers, points_length, store_in}
+use Rattle.rule_calls.specs.Areas.{Store, row, numbers, points_length, store_in}
 use Rattle.rule_calls.specs.Calls.{plan_of}
 use Rattle.search_rows.specs.Lay.{Stood, SomeStood}
 use Rattle.base_laws.proofs.Blocks.{length_flat}

@@ -1,4 +1,6 @@
 // The frames of a search over the search record and lent areas, as `WallSearch::step`.
+#![tactic(auto)]
+
 ghost use Rattle.ground_rects.specs.Windows.{centres};
 ghost use Rattle.set_board.specs.Ready.{Blank};
 ghost use Rattle.search_steps.specs.Terms.{terms, HoldsSome, HoldsRipe};
