@@ -1,4 +1,6 @@
 // What the calls answer as numbers.
+#![tactic(auto)]
+
 ghost use Rattle.std.specs.Prelude.{◌≡◌, ◌≤◌, ◌<◌, get_or, take};
 ghost use Rattle.base_laws.specs.Lists.{total};
 ghost use Rattle.base_model.specs.Answers.{reply_of};
