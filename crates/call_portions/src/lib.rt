@@ -1,4 +1,6 @@
 // A step whose checks have passed: unused entries cleared, then n portions of one evaluation each.
+#![tactic(auto)]
+
 ghost use Rattle.std.specs.Prelude.{◌≡◌, true};
 ghost use Rattle.std.proofs.Math.Option.{none};
 ghost use Rattle.base_model.specs.Answers.{first};
