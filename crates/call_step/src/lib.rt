@@ -1,4 +1,6 @@
 // Stepping a search: the checks of its inputs, its record and its areas, then its portions.
+#![tactic(auto)]
+
 ghost use Rattle.std.specs.Prelude.{◌≡◌};
 ghost use Rattle.base_model.specs.Answers.{first, reply_of};
 ghost use Rattle.rule_layouts.specs.Flat.{inputs_of};
