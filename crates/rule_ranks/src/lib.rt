@@ -1,4 +1,5 @@
 // The distance of a placement from the entrance: what it is measured with. Definitions and proofs alone.
+#![tactic(auto)]
 
 // A way across the map and down it.
 #[derive(Clone, Copy)]
