@@ -5,7 +5,32 @@ use mathlib.Core.Path.{◌∙◌}
 use lib.ListN.{take}
 use Rattle.base_laws.proofs.Stores.{all_length}
 use Rattle.ground_rects.specs.Windows.{centres}
-use Rattle.search_steps.proofs.Visits.{row_is, stood_some, enter_room, deep, set_size, sums, lists_long_lem, ready, members_are, evaluated_as, place_long, place_at, place_is, push_room, listable, route_wiped, arm_nothing, arm_extend, arm_wall, nothing_route, extend_route, wall_route, wall_number, route_inside}
+use Rattle.search_steps.proofs.Visits.{
+  row_is,
+  stood_some,
+  enter_room,
+  deep,
+  set_size,
+  sums,
+  lists_long_lem,
+  ready,
+  members_are,
+  evaluated_as,
+  place_long,
+  place_at,
+  place_is,
+  push_room,
+  listable,
+  route_wiped,
+  arm_nothing,
+  arm_extend,
+  arm_wall,
+  nothing_route,
+  extend_route,
+  wall_route,
+  wall_number,
+  route_inside,
+}
 use Rattle.search_steps.proofs.visit.Goals as goal
 
 pub set_on-set-requires : goal.set_on-set-requires

@@ -30,7 +30,19 @@ pub wall_of-requires : goal.wall_of-requires
 wall_of-requires c =
     let a = c.args in
     let p = c.requires.ready in
-    let block = mover_in a.query.window a.edges.now a.query.block a.block_base.now in record { route_lent = lent_again c.requires.route_lent c.route_past-k.auto.map (kept_by c.route_past-k.ensures.search_restored (routed_kept _ _ _ c.route_past-k.result c.if-k-eq0.true c.route_past-k.ensures.route_found)); shutting = record { moving = record { slim = p.slim; bytes = p.bytes; named = named_rows p.rows }; allowed = p.allowed; rising = p.rising }; map_value = c.route_past-k.ensures.map_after ∙ ap (blocked_map block (centres a.query.window)) (whole a.set.now); set_value = ap (passed a.query.window (steps_of a.steps.now) a.start a.end block) (sym (whole a.set.now)) ∙ routed_none _ _ _ (rw c.if-k-eq0.true at c.route_past-k.ensures.route_found) }
+    let block = mover_in a.query.window a.edges.now a.query.block a.block_base.now in
+    record {
+      route_lent =
+          lent_again c.requires.route_lent c.route_past-k.auto.map
+          (kept_by c.route_past-k.ensures.search_restored
+          (routed_kept _ _ _ c.route_past-k.result c.if-k-eq0.true c.route_past-k.ensures.route_found));
+      shutting =
+          record { moving = record { slim = p.slim; bytes = p.bytes; named = named_rows p.rows }; allowed = p.allowed; rising = p.rising };
+      map_value = c.route_past-k.ensures.map_after ∙ ap (blocked_map block (centres a.query.window)) (whole a.set.now);
+      set_value =
+          ap (passed a.query.window (steps_of a.steps.now) a.start a.end block) (sym (whole a.set.now))
+          ∙ routed_none _ _ _ (rw c.if-k-eq0.true at c.route_past-k.ensures.route_found);
+    }
 
 pub returns-then-k-eq0 : goal.returns-then-k-eq0
 returns-then-k-eq0 c =
