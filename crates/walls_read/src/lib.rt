@@ -37,7 +37,11 @@ fn read_core<'a>(
         (given query groups.now ps block_base.now allow_base.now)
         limits rec k
         (store_in lists.now visited.now layouts.now points.entry.now))
-        ≡ record { points = result.now; answer = answer.new; index = index.new } }
+        ≡ record {
+          points = result.now;
+          answer = answer.new;
+          index = index.new;
+        } }
 {
     let laid = at_most(count);
     let part = lists_lent(lists.len(), count);
