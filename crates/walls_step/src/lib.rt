@@ -1,4 +1,6 @@
 // The call step (RULES 7.5), the placements lent as a row of records, the search record lent.
+#![tactic(auto)]
+
 ghost use Rattle.std.specs.Prelude.{◌≡◌, List, length};
 ghost use Rattle.base_model.specs.Answers.{reply_of};
 ghost use Rattle.base_model.specs.declared.Placement.{Placement};
