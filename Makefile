@@ -1,6 +1,6 @@
 # make test      the gate: proves every crate from nothing, tries the must-fail edits, runs the programs, hands them inputs that do not arrive whole
 # make run       answers a drive sheet: make run SHEET=file; proves and builds the program first
-# make try       answers a drive sheet within seconds, from a build of the same code that is not proved: make try SHEET=file
+# make try       answers a drive sheet from a build of the same code that is not proved: make try SHEET=file
 # make edits     tries the must-fail edits of one crate alone: make edits CRATE=name
 # make times     proves every crate from nothing, in a copy: each crate's seconds, the total, what its edits cost
 # make worked    writes what `program_worked` is run on, and what it must print, from sheets/
