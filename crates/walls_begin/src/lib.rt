@@ -1,4 +1,6 @@
 // The call begin (RULES 7.4), the placements lent as a row of records.
+#![tactic(auto)]
+
 ghost use Rattle.std.specs.Prelude.{◌≡◌, List, length};
 ghost use Rattle.base_model.specs.Answers.{reply_of};
 ghost use Rattle.base_model.specs.declared.Placement.{Placement};
