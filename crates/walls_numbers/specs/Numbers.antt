@@ -59,17 +59,17 @@ numbers_after (some e) r ns = ns
 -- 0 where a verdict is given
 unfoldable pub judged_answer : Judgement → ℕ
 judged_answer (refuses e) = e.number
-judged_answer (judges v distance) = 0
+judged_answer (judges v centres) = 0
 
 unfoldable pub judged_index : Judgement → ℕ
 judged_index (refuses e) = get_or e.values 0 0
-judged_index (judges v distance) = 0
+judged_index (judges v centres) = 0
 
 -- 0 on a refusal
 unfoldable pub judged_verdict : Judgement → ℕ
 judged_verdict (refuses e) = 0
-judged_verdict (judges v distance) = verdict_number v
+judged_verdict (judges v centres) = verdict_number v
 
 unfoldable pub judged_ground : Judgement → ℕ
 judged_ground (refuses e) = 0
-judged_ground (judges v distance) = distance
+judged_ground (judges v centres) = centres
