@@ -1,4 +1,6 @@
 // The calls on a search whose record is fifty numbers, what they answer told as numbers.
+#![tactic(auto)]
+
 ghost use Rattle.std.specs.Prelude.{◌≡◌};
 ghost use Rattle.rule_layouts.specs.Flat.{inputs_of};
 ghost use Rattle.rule_calls.specs.Areas.{work_in, store_in};
