@@ -1,4 +1,6 @@
 // A begun search of a sheet: stepped once, and what that leaves written. Apart from begin, so that the step is checked alone.
+#![tactic(auto)]
+
 ghost use Rattle.std.proofs.Math.Option.{none};
 ghost use Rattle.rule_layouts.specs.Flat.{inputs_of};
 ghost use Rattle.rule_calls.specs.Areas.{work_in, store_in};
