@@ -1,4 +1,6 @@
 // The call judge (RULES 7.7), the placements lent as a row of records.
+#![tactic(auto)]
+
 ghost use Rattle.std.specs.Prelude.{◌≡◌, List, length};
 ghost use Rattle.base_model.specs.declared.Placement.{Placement};
 ghost use Rattle.rule_calls.specs.Areas.{work_in};
