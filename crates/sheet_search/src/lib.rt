@@ -1,4 +1,6 @@
 // A search of a sheet: begun, then its refusal written or the search finished. Apart from the drive, so that begin is checked alone.
+#![tactic(auto)]
+
 ghost use Rattle.std.specs.Prelude.{◌≤◌, length};
 ghost use Rattle.rule_layouts.specs.Flat.{inputs_of};
 ghost use Rattle.rule_calls.specs.Areas.{work_in};
