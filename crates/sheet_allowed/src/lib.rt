@@ -1,4 +1,6 @@
 // The allowed mover of a sheet prepared, then the search. Apart from the drive, so that its preparation is checked alone.
+#![tactic(auto)]
+
 ghost use Rattle.std.specs.Prelude.{◌≡◌, ℕ, ◌≤◌, length, List, ◌∷◌};
 ghost use Rattle.rule_calls.specs.Areas.{work_in};
 ghost use Rattle.sheet_texts.specs.Parts.{enough, Front};
