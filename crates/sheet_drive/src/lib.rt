@@ -1,4 +1,6 @@
 // The drive over a sheet's values: the mover to block prepared, then the allowed mover, if there is one, and the search.
+#![tactic(auto)]
+
 ghost use Rattle.std.specs.Prelude.{◌≤◌, length};
 ghost use Rattle.sheet_texts.specs.Parts.{enough, Front};
 ghost use Rattle.sheet_form.specs.Sheets.{Sheet};
