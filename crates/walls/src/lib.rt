@@ -1,5 +1,6 @@
 // The calls (RULES 7): the search record lent, the placements lent as a row of records. Each contract stands with its function, in the
 // crate that the call is handed on from.
+#![tactic(auto)]
 
 // The order of steps of the original, as a table.
 pub use route_table::original_steps;
