@@ -1,6 +1,8 @@
 // The calls under C names: every value is a number, a slice is a pointer and a length, the placements are lent flat and the search
 // record is fifty numbers. Each gives 0 where the call is accepted, else the refusal's number; `index` becomes the index given with
 // 15, 0 for any other answer.
+#![tactic(auto)]
+
 ghost use Rattle.std.specs.Prelude.{◌≡◌};
 ghost use Rattle.ground_rects.specs.Rects.{rect};
 ghost use Rattle.rule_layouts.specs.Flat.{inputs_of};
@@ -588,7 +590,7 @@ pub extern "C" fn hitrovzen_rank(
         (rect footprint_left footprint_top footprint_right footprint_bottom)
         ≡ record {
           answer = result;
-          rank = record { quotient = quotient.exit.now; remainder = remainder.new; divisor = divisor.new };
+          rank = record { quotient = quotient.new; remainder = remainder.new; divisor = divisor.new };
         } }
 {
     let first = Position {

@@ -1,0 +1,25 @@
+-- `walls_c::hitrovzen_judge` meets its contract: the judgement is told as four numbers.
+use mathlib.Core.Path.{sym, ◌∙◌, ap}
+use Rattle.base_model.specs.declared.Query.{Query}
+use Rattle.rule_layouts.specs.Flat.{inputs_of}
+use Rattle.rule_calls.specs.Areas.{Work, work_in}
+use Rattle.rule_calls.specs.Calls.{judge_call}
+use Rattle.walls_numbers.proofs.Left.{judge_left}
+use Rattle.walls_numbers.proofs.Signed.{query_back}
+use Rattle.walls_c.proofs.hitrovzen_judge.Goals as goal
+
+pub returns : goal.returns
+returns c =
+    let a = c.args in
+    let f = c.ranges in
+    let q = c.query_from-query.ensures
+    ∙ query_back a.window_left a.window_top a.window_right a.window_bottom f.window_left f.window_top
+    f.window_right f.window_bottom
+    a.start_x a.start_y a.end_x a.end_y a.block_left a.block_top a.block_right a.block_bottom
+    a.allow_given a.allow_left a.allow_top a.allow_right a.allow_bottom in
+    let w : Work = work_in a.counts.now a.map.now a.queue.now a.predecessors.now a.route.now in
+    judge_left a.steps.now _ a.selection.now w _ _ _ _ _
+    (ap (λ (x : Query). judge_call a.steps.now
+    (inputs_of (x) a.groups.now a.numbers.now a.edges.now a.block_base.now a.allow_base.now) a.selection.now w)
+    (sym q) ∙ c.judge-judged.ensures)
+    c.answer_in.ensures c.index_in.ensures c.verdict_in.ensures c.ground_in.ensures
