@@ -204,7 +204,7 @@ pub fn read<'a>(
         (inputs_of query groups.now numbers.now edges.now
         block_base.now allow_base.now)
         limits rec k
-        (store_in lists.now visited.now layouts.now points.entry.now))
+        (store_in lists.now visited.now layouts.now points.now))
         ≡ record { points = result.now; answer = answer.new; index = index.new } }
 {
     let said = read_checks(
