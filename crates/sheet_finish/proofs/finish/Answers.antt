@@ -13,7 +13,11 @@ write_refusal-requires c = omega (arith, c.requires.room)
 
 pub returns-in-Refused : goal.returns-in-Refused
 returns-in-Refused c =
-    finish_refused c.args.steps.now (inputs_of c.args.query c.args.groups.now c.args.numbers.now c.args.edges.now c.args.block_base.now c.args.allow_base.now) c.args.limits c.args.rec (work_in c.args.counts.now c.args.map.now c.args.queue.now c.args.predecessors.now c.args.route.now) (store_in c.args.lists.now c.args.visited.now c.args.layouts.now c.args.points.now) c.step-stepped.result.answer _ _ _ c.step-stepped.ensures _ _ _ _
+    finish_refused c.args.steps.now
+    (inputs_of c.args.query c.args.groups.now c.args.numbers.now c.args.edges.now c.args.block_base.now c.args.allow_base.now)
+    c.args.limits c.args.rec (work_in c.args.counts.now c.args.map.now c.args.queue.now c.args.predecessors.now c.args.route.now)
+    (store_in c.args.lists.now c.args.visited.now c.args.layouts.now c.args.points.now) c.step-stepped.result.answer _ _ _
+    c.step-stepped.ensures _ _ _ _
     c.in-Refused.is c.requires.room c.write_refusal.ensures
 
 pub write_result-requires : goal.write_result-requires
@@ -22,7 +26,10 @@ write_result-requires c =
     let p = c.requires in
     let h : Steppable c.args.rec c.step-stepped.new.points c.args.out.now =
     record { routes = p.routes; lengths = p.lengths; nexts = p.nexts; few = omega (arith, p.few, long); room = p.room } in record {
-      writable = finish_writable c.args.steps.now (inputs_of c.args.query c.args.groups.now c.args.numbers.now c.args.edges.now c.args.block_base.now c.args.allow_base.now) c.args.limits c.args.rec (work_in c.args.counts.now c.args.map.now c.args.queue.now c.args.predecessors.now c.args.route.now) (store_in c.args.lists.now c.args.visited.now c.args.layouts.now c.args.points.now)
+      writable = finish_writable c.args.steps.now
+          (inputs_of c.args.query c.args.groups.now c.args.numbers.now c.args.edges.now c.args.block_base.now c.args.allow_base.now)
+          c.args.limits c.args.rec (work_in c.args.counts.now c.args.map.now c.args.queue.now c.args.predecessors.now c.args.route.now)
+          (store_in c.args.lists.now c.args.visited.now c.args.layouts.now c.args.points.now)
           c.step-stepped.result.answer _ _ _ c.step-stepped.ensures c.args.out.now
           c.args.out.now 0 c.in_default.is h;
       enough_in_bounds = p.room;
@@ -37,5 +44,9 @@ returns c =
     let v : Words c.step-stepped.new.layouts
     c.step-stepped.new.points =
     record { halves = λ i. omega (arith, c.slice_known-16-1.given i); words = λ i. omega (arith, c.slice_known-17-1.given i) } in
-    finish_written c.args.steps.now (inputs_of c.args.query c.args.groups.now c.args.numbers.now c.args.edges.now c.args.block_base.now c.args.allow_base.now) c.args.limits c.args.rec (work_in c.args.counts.now c.args.map.now c.args.queue.now c.args.predecessors.now c.args.route.now) (store_in c.args.lists.now c.args.visited.now c.args.layouts.now c.args.points.now) c.step-stepped.result.answer _ _ _ c.step-stepped.ensures _ _ _
+    finish_written c.args.steps.now
+    (inputs_of c.args.query c.args.groups.now c.args.numbers.now c.args.edges.now c.args.block_base.now c.args.allow_base.now)
+    c.args.limits c.args.rec (work_in c.args.counts.now c.args.map.now c.args.queue.now c.args.predecessors.now c.args.route.now)
+    (store_in c.args.lists.now c.args.visited.now c.args.layouts.now c.args.points.now) c.step-stepped.result.answer _ _ _
+    c.step-stepped.ensures _ _ _
     c.in_default.is h v (c.write_result.ensures _ refl refl)

@@ -25,7 +25,10 @@ write_refusal-requires c = omega (arith, c.requires)
 pub returns-in-Refused : goal.returns-in-Refused
 unfolding no_store
 returns-in-Refused c =
-    search_refused c.args.steps.now (inputs_of c.args.query c.args.groups.now c.args.numbers.now c.args.edges.now c.args.block_base.now c.args.allow_base.now) c.args.limits (work_in c.args.counts.now c.args.map.now c.args.queue.now c.args.predecessors.now c.args.route.now) no_store c.begin-begun.result.answer _ _ _ c.begin-begun.ensures _ _ _ _
+    search_refused c.args.steps.now
+    (inputs_of c.args.query c.args.groups.now c.args.numbers.now c.args.edges.now c.args.block_base.now c.args.allow_base.now)
+    c.args.limits (work_in c.args.counts.now c.args.map.now c.args.queue.now c.args.predecessors.now c.args.route.now) no_store
+    c.begin-begun.result.answer _ _ _ c.begin-begun.ensures _ _ _ _
     c.in-Refused.is c.requires c.write_refusal.ensures
 
 pub slice_bounds-finish-end : goal.slice_bounds-finish-end
@@ -43,12 +46,18 @@ slice_bounds-finish-end-4 c = sym c.begin-begun.auto.points
 pub finish-requires : goal.finish-requires
 unfolding no_store
 finish-requires c =
-    search_steppable c.args.steps.now (inputs_of c.args.query c.args.groups.now c.args.numbers.now c.args.edges.now c.args.block_base.now c.args.allow_base.now) c.args.limits (work_in c.args.counts.now c.args.map.now c.args.queue.now c.args.predecessors.now c.args.route.now) no_store c.begin-begun.result.answer _ _ _ c.begin-begun.ensures
+    search_steppable c.args.steps.now
+    (inputs_of c.args.query c.args.groups.now c.args.numbers.now c.args.edges.now c.args.block_base.now c.args.allow_base.now)
+    c.args.limits (work_in c.args.counts.now c.args.map.now c.args.queue.now c.args.predecessors.now c.args.route.now) no_store
+    c.begin-begun.result.answer _ _ _ c.begin-begun.ensures
     c.in_default.is _ _
     (omega (arith, c.begin-begun.auto.points)) c.requires
 
 pub returns : goal.returns
 unfolding no_store
 returns c =
-    search_finished c.args.steps.now (inputs_of c.args.query c.args.groups.now c.args.numbers.now c.args.edges.now c.args.block_base.now c.args.allow_base.now) c.args.limits (work_in c.args.counts.now c.args.map.now c.args.queue.now c.args.predecessors.now c.args.route.now) no_store c.begin-begun.result.answer _ _ _ c.begin-begun.ensures
+    search_finished c.args.steps.now
+    (inputs_of c.args.query c.args.groups.now c.args.numbers.now c.args.edges.now c.args.block_base.now c.args.allow_base.now)
+    c.args.limits (work_in c.args.counts.now c.args.map.now c.args.queue.now c.args.predecessors.now c.args.route.now) no_store
+    c.begin-begun.result.answer _ _ _ c.begin-begun.ensures
     c.in_default.is _ _ _ c.finish.ensures
