@@ -1,4 +1,6 @@
 // The values of a sheet that was read, in the forms that the calls take, and the drive over them. Apart from the drive's own calls.
+#![tactic(auto)]
+
 ghost use Rattle.std.specs.Prelude.{◌≡◌, ◌+◌, ◌*◌, ◌≤◌, length, drop};
 ghost use Rattle.base_laws.specs.Fill.{filled};
 ghost use Rattle.rule_routes.specs.Edges.{original_steps};

@@ -1,0 +1,21 @@
+-- The answers to the goals of `sheet_values::sides_of`.
+use Rattle.sheet_values.proofs.Values.{edge_same}
+use native.Mathlib.Omega.{arith}
+use Rattle.base_laws.proofs.Fill.{filling_none, filling_more, filling_all}
+use Rattle.sheet_values.specs.Inner.{side_at}
+use Rattle.sheet_values.proofs.sides_of.Goals as goal
+
+pub loop-k-init : goal.loop-k-init
+loop-k-init c = filling_none (side_at c.args.words.now) c.args.n c.args.out.now c.requires.1
+
+pub loop-k-preserved : goal.loop-k-preserved
+unfolding side_at
+loop-k-preserved c =
+    filling_more (side_at c.args.words.now) c.args.n c.args.out.now c.requires.1 c.loop-k.out c.loop-k.k _ c.loop-k-test.true
+    (edge_same c.edge.result _ c.edge.ensures) c.loop-k.invariant
+
+pub returns : goal.returns
+returns c =
+    filling_all (side_at c.args.words.now) c.args.n
+    c.args.out.now c.requires.1 c.loop-k.out c.loop-k.k
+    (omega (arith, c.loop-k-test.false)) c.loop-k.invariant
