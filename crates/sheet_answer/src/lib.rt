@@ -1,4 +1,6 @@
 // The drive sheet: from a text to the text of its answer.
+#![tactic(auto)]
+
 ghost use Rattle.sheet_answer.specs.Answers.{Answers};
 
 use base_model::SIDES;
