@@ -1,16 +1,12 @@
 -- What was written is the answer to what arrived: 18 where no whole text stands in the area, otherwise what `sheet_answer::answer` wrote, whose area is long enough.
 use Prim.Native.Nat.{ℕ, ◌≤◌, ◌<◌}
 use mathlib.Core.Path.{◌≡◌, refl, sym, ◌∙◌, ap, subst}
-use mathlib.Core.Logic.{⊎_elim}
 use mathlib.Core.Option.{none, some}
-use mathlib.Core.List.{List, ◌∷◌, [], ◌++◌}
+use mathlib.Core.List.{List, ◌++◌}
 use native.Mathlib.Omega.{arith}
 use lib.ListN.{length, length-append, take, drop}
 use lib.Seq.{length-take-le}
-use types.Run.{OneOf}
-use denote.Enum.Declared.{tag_of}
 use borrow.Author.Tests.{le-leb, lt-leb}
-use Rattle.input_arrival.specs.contracts.Arrival.{the_type}
 use Rattle.input_arrival.specs.declared.Arrival.{Arrival}
 use Rattle.input_arrival.specs.declared.Arrival.TheVariants.{Going, Whole, Cut}
 use Rattle.base_model.specs.Answers.{refusal}
@@ -25,11 +21,11 @@ use Rattle.sheet_reply.specs.Inner.{InFront}
 use Rattle.sheet_reply.specs.Replies.{text_in, AnswerTo, Replies}
 
 -- ---- whether a text stands there
-pub no_text : (input : Arrival) (area : List ℕ) → OneOf (0 ∷ 2 ∷ []) (tag_of the_type input) → text_in input area ≡ none
+pub no_text : (input : Arrival) (area : List ℕ) → ((n : ℕ) → input ≡ Whole n → ⊥) → text_in input area ≡ none
 unfolding text_in
 no_text (Going n) area o = refl
 no_text Cut area o = refl
-no_text (Whole n) area o = absurd (⊎_elim (λ q. let no : ⊥ = omega arith in no) (λ q. let no : ⊥ = omega arith in no) o)
+no_text (Whole n) area o = absurd (o n refl)
 
 pub beyond : (input : Arrival) (n : ℕ) (area : List ℕ) → input ≡ Whole n → length area < n → text_in input area ≡ none
 unfolding text_in

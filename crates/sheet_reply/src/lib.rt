@@ -1,4 +1,6 @@
 // The answer to what has arrived of an input.
+#![tactic(auto)]
+
 ghost use Rattle.sheet_reply.specs.Inner.{InFront};
 ghost use Rattle.sheet_reply.specs.Replies.{Replies};
 
