@@ -1,13 +1,12 @@
 -- What one read tells: if more may come, it has put a byte or more and left room; if it ends the input, what stood there leaves room.
-use Prim.Native.Nat.{ℕ, ◌+◌, ◌≤◌, ◌<◌}
-use mathlib.Core.Path.{◌≡◌, refl, sym, ◌∙◌, subst}
+use Prim.Native.Nat.{ℕ, ◌+◌, ◌<◌}
+use mathlib.Core.Path.{◌≡◌, refl, sym, ◌∙◌}
 use mathlib.Core.Bool.{Bool, true, false}
 use mathlib.Core.List.{List}
 use native.Mathlib.Omega.{arith}
 use lib.Dec.{ltb, eqb}
 use lib.IntN.{ℤ, pos, negsuc}
-use lib.ListN.{length, take}
-use lib.Seq.{length-take-le}
+use lib.ListN.{length}
 use borrow.Author.Tests.{ltb-true, eqb-false}
 use Rattle.input_arrival.specs.Arrivals.{takes}
 use Rattle.input_arrival.specs.declared.Arrival.{Arrival}
@@ -51,10 +50,3 @@ pub all_read : (room at : ℕ) (r : Arrival) → ReadOnce room at r → (area : 
 all_read room at (Going n) h area e o = o n refl
 all_read room at (Whole n) h area e o = let l = ends room at (Whole n) h h.answer n (sym h.is) in omega arith
 all_read room at Cut h area e o = tt
-
--- the front of the area can be lent
-pub whole_inside : (area : List ℕ) (r : Arrival) (n : ℕ) → AllRead area r → r ≡ Whole n → (n ≤ length area) × (n ≡ length (take n area))
-whole_inside area r n h e =
-    let l : n < length area = subst (AllRead area) e h in
-    let w : n ≤ length area = omega arith in
-    (w, sym (length-take-le n area w))

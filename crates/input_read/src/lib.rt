@@ -2,7 +2,7 @@
 #![tactic(auto)]
 
 ghost use Rattle.std.specs.Prelude.{◌≤◌, length};
-ghost use Rattle.input_read.specs.Reads.{ReadOnce, AllRead};
+ghost use Rattle.input_read.specs.Reads.{ReadOnce, ReadOn, AllRead, AllCame};
 
 use input_arrival::Arrival;
 use std::io::Read;
@@ -10,7 +10,8 @@ use std::io::Read;
 // One read into the area, after the bytes that stand there.
 fn read_more<R: Read>(reader: &mut R, area: &mut [u8], at: usize) -> Arrival
     requires { at ≤ length area.old }
-    ensures { ReadOnce (length area.old) at result }
+    ensures folds { ReadOnce (length area.old) at result }
+    ensures bytes { ReadOn at (R.remaining reader.old) (R.remaining reader.new) area.old area.new result }
 {
     let room = area.len();
     let got = match reader.read(&mut area[at..]) {
@@ -22,7 +23,8 @@ fn read_more<R: Read>(reader: &mut R, area: &mut [u8], at: usize) -> Arrival
 
 // Reads until the input ends, a read fails or the area is full, and tells which: only at the end of the input is it whole.
 pub fn read_all<R: Read>(reader: &mut R, area: &mut [u8]) -> Arrival
-    ensures { AllRead area.new result }
+    ensures ends { AllRead area.new result }
+    ensures bytes { AllCame (R.remaining reader.old) area.new result }
 {
     let mut at = 0;
     while at < area.len() {
