@@ -21,7 +21,12 @@ returns-then-not-within_caps c =
     (front_18 _ _ _ c.if-out-lt-ENOUGH.false c.write_refused-then-not-within_caps.ensures)
 
 pub driven-requires : goal.driven-requires
-driven-requires c = record { rooms = rooms _ _ _ _ _ _ _ (got _ _ _ _ _ _ _ c.read_sheet.ensures _ c.in-Sheet.is) (search rules) (search rules) (search rules) (search rules) (search rules); enough_in_bounds = c.if-out-lt-ENOUGH.false }
+driven-requires c = record {
+  rooms =
+      rooms _ _ _ _ _ _ _ (got _ _ _ _ _ _ _ c.read_sheet.ensures _ c.in-Sheet.is) (search rules) (search rules) (search rules) (search rules)
+      (search rules);
+  enough_in_bounds = c.if-out-lt-ENOUGH.false;
+}
 
 pub returns : goal.returns
 returns c =
