@@ -1,3 +1,4 @@
+-- The answers to the goals of `input_read::read_all`.
 use mathlib.Core.Path.{refl, ◌∙◌}
 use native.Mathlib.Omega.{arith}
 use Rattle.input_read.proofs.Bytes.{consumes_none, more_came, all_came}
