@@ -27,7 +27,7 @@ use Rattle.base_model.specs.declared.Refusal.TheVariants.{
   CountOutOfRange,
   SiteInvalid,
 }
-use Rattle.base_model.specs.declared.Answer.TheVariants.{Done, Refused}
+use Rattle.std.specs.Prelude.{Result, Ok, Err}
 use Rattle.base_model.specs.Answers.{refusal, said_of, reply_of}
 
 -- a refusal, its number, and the values given with it
@@ -62,7 +62,7 @@ unfolding refusal said_of refusals
 said = refl
 
 -- an accepted call gives none, a refused one what its refusal says
-pub replies : map reply_of (Done ∷ Refused NoRoute ∷ Refused (PlacementInvalid 7) ∷ [])
+pub replies : map (reply_of {A = ℕ}) (Ok 0 ∷ Err NoRoute ∷ Err (PlacementInvalid 7) ∷ [])
     ≡ none ∷ some (record { number = 9; values = [] }) ∷ some (record { number = 15; values = 7 ∷ [] }) ∷ []
 unfolding refusal said_of reply_of
 replies = refl

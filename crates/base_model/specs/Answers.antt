@@ -1,6 +1,6 @@
 -- Refusals: a number, and the values given with it. Checks stand in a list, in their order; the first that fails is the answer (RULES 7.1, 8.1).
 -- The numbers of the verdicts (RULES 7.7).
-use Rattle.std.specs.Prelude.{ℕ, Bool, true, false, List, [], ◌∷◌}
+use Rattle.std.specs.Prelude.{ℕ, Bool, true, false, List, [], ◌∷◌, Result, Ok, Err}
 use Rattle.std.proofs.Math.Option.{Option, none, some}
 use Rattle.base_model.specs.declared.Refusal.{Refusal}
 use Rattle.base_model.specs.declared.Refusal.TheVariants.{
@@ -26,8 +26,6 @@ use Rattle.base_model.specs.declared.Refusal.TheVariants.{
   CountOutOfRange,
   SiteInvalid,
 }
-use Rattle.base_model.specs.declared.Answer.{Answer}
-use Rattle.base_model.specs.declared.Answer.TheVariants.{Done, Refused}
 use Rattle.base_model.specs.declared.Verdict.{Verdict}
 use Rattle.base_model.specs.declared.Verdict.TheVariants.{Slots, Overlap, EndCovered, Open, Spare, Shut, Wall}
 
@@ -73,9 +71,9 @@ said_of CountOutOfRange = refusal 20
 said_of SiteInvalid = refusal 22
 
 -- none where the call is accepted
-unfoldable pub reply_of : Answer → Option Said
-reply_of Done = none
-reply_of (Refused r) = some (said_of r)
+unfoldable pub reply_of : {A : Type 0} → Result A Refusal → Option Said
+reply_of (Ok _) = none
+reply_of (Err r) = some (said_of r)
 
 -- the number of RULES 7.7 for each verdict
 unfoldable pub verdict_number : Verdict → ℕ

@@ -5,6 +5,9 @@ ghost use Rattle.std.specs.Prelude.{◌≡◌, false};
 ghost use Rattle.base_model.specs.Answers.{said_of, verdict_number};
 ghost use Rattle.base_model.specs.Records.{fresh_record};
 
+use std::error::Error;
+use std::fmt;
+
 // Half open: right and bottom are exclusive.
 #[derive(Clone, Copy)]
 pub struct Rect {
@@ -24,7 +27,7 @@ pub struct Bounds {
 }
 
 // A pixel of the map.
-#[derive(Clone, Copy)]
+#[derive(Clone, Copy, PartialEq, Eq)]
 pub struct Position {
     pub x: u32,
     pub y: u32,
@@ -103,13 +106,6 @@ pub const STATE_LIMIT: u32 = 3;
 
 pub const RESULT_LIMIT: u32 = 4;
 
-// The mover that a wall must let pass, if there is one.
-#[derive(Clone, Copy)]
-pub enum Allow {
-    Nobody,
-    Bounded(Bounds),
-}
-
 // What a search or a judgement is about: the window, the ends, the mover that a wall blocks and the one that it lets pass.
 #[derive(Clone, Copy)]
 pub struct Query {
@@ -117,7 +113,8 @@ pub struct Query {
     pub start: Position,
     pub end: Position,
     pub block: Bounds,
-    pub allow: Allow,
+    // none where a wall need let nobody pass
+    pub allow: Option<Bounds>,
 }
 
 // How many sets a search may evaluate, and how many layouts it may list.
@@ -144,7 +141,7 @@ pub struct Record {
 }
 
 // What a call turns away.
-#[derive(Clone, Copy)]
+#[derive(Clone, Copy, Debug, PartialEq, Eq)]
 pub enum Refusal {
     MapInvalid,
     WindowInvalid,
@@ -170,22 +167,8 @@ pub enum Refusal {
     SiteInvalid,
 }
 
-// The answer of a call that leaves its result in the areas.
-#[derive(Clone, Copy)]
-pub enum Answer {
-    Done,
-    Refused(Refusal),
-}
-
-// What a call that works on a search gives back: its answer, and the search record.
-#[derive(Clone, Copy)]
-pub struct Reply {
-    pub answer: Answer,
-    pub rec: Record,
-}
-
 // What a selection of placements comes to.
-#[derive(Clone, Copy)]
+#[derive(Clone, Copy, Debug, PartialEq, Eq)]
 pub enum Verdict {
     Slots,
     Overlap,
@@ -196,11 +179,11 @@ pub enum Verdict {
     Wall,
 }
 
-// The answer of judging: a verdict with the ground left.
+// What judging answers: the verdict, and the ground that the selection leaves.
 #[derive(Clone, Copy)]
-pub enum Judged {
-    Verdict(Verdict, u32),
-    Refused(Refusal),
+pub struct Judged {
+    pub verdict: Verdict,
+    pub ground: u32,
 }
 
 // Where placements are wanted: around the entrance, the line from the first point to the second, no farther from it than the radius in
@@ -220,71 +203,66 @@ pub struct Rank {
     pub divisor: u64,
 }
 
-// The answer of ranking: a placement beyond the radius has no rank.
-#[derive(Clone, Copy)]
-pub enum Ranked {
-    Rank(Rank),
-    Beyond,
-    Refused(Refusal),
-}
-
-// A number as an index.
-pub fn index(n: u32) -> usize
-    ensures { result ≡ n }
-{
-    n as usize
-}
-
-// A number of a row as an index.
-pub fn member(n: u16) -> usize
-    ensures { result ≡ n }
-{
-    n as usize
-}
-
 // The number of a refusal. 13 is out of use.
-#[tactic(auto, unfolding(crate::specs::Answers::said_of, crate::specs::Answers::refusal))]
-pub fn refusal_number(refusal: Refusal) -> u32
-    ensures { result ≡ (said_of refusal).number }
-{
-    match refusal {
-        Refusal::MapInvalid => 1,
-        Refusal::WindowInvalid => 2,
-        Refusal::EndOutside => 3,
-        Refusal::BoundTooLarge => 4,
-        Refusal::ObstacleInvalid => 5,
-        Refusal::AreaTooShort => 6,
-        Refusal::StartBlocked => 7,
-        Refusal::EndBlocked => 8,
-        Refusal::NoRoute => 9,
-        Refusal::GroupsInvalid => 10,
-        Refusal::StateLimitInvalid => 11,
-        Refusal::ResultLimitInvalid => 12,
-        Refusal::TooManyPlacements => 14,
-        Refusal::PlacementInvalid(_) => 15,
-        Refusal::RectangleEmpty => 15,
-        Refusal::FootprintInvalid => 15,
-        Refusal::RecordInvalid => 16,
-        Refusal::SelectionInvalid => 17,
-        Refusal::StepsInvalid => 19,
-        Refusal::CountOutOfRange => 20,
-        Refusal::SiteInvalid => 22,
+impl From<Refusal> for u32 {
+    ghost from_gives = { λ refusal n. n ≡ (said_of refusal).number };
+
+    #[tactic(auto, unfolding(crate::specs::Answers::said_of, crate::specs::Answers::refusal))]
+    fn from(refusal: Refusal) -> u32 {
+        match refusal {
+            Refusal::MapInvalid => 1,
+            Refusal::WindowInvalid => 2,
+            Refusal::EndOutside => 3,
+            Refusal::BoundTooLarge => 4,
+            Refusal::ObstacleInvalid => 5,
+            Refusal::AreaTooShort => 6,
+            Refusal::StartBlocked => 7,
+            Refusal::EndBlocked => 8,
+            Refusal::NoRoute => 9,
+            Refusal::GroupsInvalid => 10,
+            Refusal::StateLimitInvalid => 11,
+            Refusal::ResultLimitInvalid => 12,
+            Refusal::TooManyPlacements => 14,
+            Refusal::PlacementInvalid(_) => 15,
+            Refusal::RectangleEmpty => 15,
+            Refusal::FootprintInvalid => 15,
+            Refusal::RecordInvalid => 16,
+            Refusal::SelectionInvalid => 17,
+            Refusal::StepsInvalid => 19,
+            Refusal::CountOutOfRange => 20,
+            Refusal::SiteInvalid => 22,
+        }
     }
 }
 
+// As the programs print it: the number, and the index that goes with 15.
+impl fmt::Display for Refusal {
+    fn fmt<W: fmt::Write>(&self, f: &mut fmt::Formatter<W>) -> fmt::Result {
+        let number = u32::from(*self);
+        match self {
+            Refusal::PlacementInvalid(i) => write!(f, "{number} {i}"),
+            _ => write!(f, "{number}"),
+        }
+    }
+}
+
+impl Error for Refusal {}
+
 // The number of a verdict.
-#[tactic(auto, unfolding(crate::specs::Answers::verdict_number))]
-pub fn verdict_number(verdict: Verdict) -> u32
-    ensures { result ≡ verdict_number verdict }
-{
-    match verdict {
-        Verdict::Slots => 1,
-        Verdict::Overlap => 2,
-        Verdict::EndCovered => 3,
-        Verdict::Open => 4,
-        Verdict::Spare => 5,
-        Verdict::Shut => 6,
-        Verdict::Wall => 7,
+impl From<Verdict> for u32 {
+    ghost from_gives = { λ verdict n. n ≡ verdict_number verdict };
+
+    #[tactic(auto, unfolding(crate::specs::Answers::verdict_number))]
+    fn from(verdict: Verdict) -> u32 {
+        match verdict {
+            Verdict::Slots => 1,
+            Verdict::Overlap => 2,
+            Verdict::EndCovered => 3,
+            Verdict::Open => 4,
+            Verdict::Spare => 5,
+            Verdict::Shut => 6,
+            Verdict::Wall => 7,
+        }
     }
 }
 
@@ -293,12 +271,12 @@ pub fn fresh_record(reason: u32, places: u32, pending: bool) -> Record
     ensures { result ≡ fresh_record reason places pending }
 {
     Record {
-        reason: reason,
+        reason,
         evaluations: 0,
         placements: places,
         layouts: 0,
         lists: 0,
-        pending: pending,
+        pending,
         routes: [0; LAYOUTS],
         lengths: [0; SLOTS],
         nexts: [0; SLOTS],
