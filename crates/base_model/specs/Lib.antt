@@ -1,2 +1,3 @@
+pub mod Allow
 pub mod Answers
 pub mod Records

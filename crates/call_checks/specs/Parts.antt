@@ -5,8 +5,8 @@ use Rattle.base_laws.specs.Lists.{all_of, total}
 use Rattle.base_model.specs.Answers.{Said, ask}
 use Rattle.base_model.specs.declared.Rect.{Rect}
 use Rattle.base_model.specs.declared.Placement.{Placement}
-use Rattle.base_model.specs.declared.Allow.{Allow}
-use Rattle.base_model.specs.declared.Allow.TheVariants.{Nobody, Bounded}
+use Rattle.base_model.specs.Allow.{Allow}
+use Rattle.std.specs.Prelude.{None, Some}
 use Rattle.base_model.specs.declared.Query.{Query}
 use Rattle.ground_rects.specs.Rects.{small}
 use Rattle.ground_rects.specs.Windows.{centres, window_fits, in_window}
@@ -20,11 +20,11 @@ groups_fit gs = leb (length gs) 6 && all_of (λ (k : ℕ). leb 1 k && leb k 6) g
 
 -- no bound of the allowed mover, if there is one, is above 256
 unfoldable pub allow_small : Allow → Bool
-allow_small a = elim a [ Nobody ↦ true | Bounded m ↦ small m ]
+allow_small a = elim a [ None ↦ true | Some m ↦ small m ]
 
 -- the allowed mover's baseline, if there is one, has n bytes
 unfoldable pub allow_long : ℕ → Allow → ℕ → Bool
-allow_long n a base = elim a [ Nobody ↦ true | Bounded m ↦ leb n base ]
+allow_long n a base = elim a [ None ↦ true | Some m ↦ leb n base ]
 
 -- 2, 3 and 4
 unfoldable pub frames_of : Query → List (Option Said)

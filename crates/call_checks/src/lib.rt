@@ -13,10 +13,7 @@ ghost use Rattle.call_lengths.specs.Lengths.{WorkHas, StoreHas};
 ghost use Rattle.rule_calls.specs.Checks.{group_checks, limit_checks, placement_fits, place_checks};
 ghost use Rattle.call_checks.specs.Parts.{groups_fit, allow_small, allow_long, frame_checks, area_checks, Misplaced};
 
-use base_model::{
-    Allow, Answer, EDGES, LAST_SPEC, LAYOUTS, Limits, NUMBERS, PIXELS, PLACES, Query, Rect,
-    Refusal, SLOTS, STATES,
-};
+use base_model::{Answer, Bounds, EDGES, LAST_SPEC, LAYOUTS, Limits, NUMBERS, PIXELS, PLACES, Query, Rect, Refusal, SLOTS, STATES};
 use call_lengths::{StoreLengths, WorkLengths};
 use set_places::{collision_at, footprint_at, group_at};
 
@@ -92,12 +89,12 @@ fn ends_inside(query: Query) -> bool
 }
 
 // Whether the allowed mover, if there is one, is small enough.
-fn allow_small(allow: Allow) -> bool
+fn allow_small(allow: Option<Bounds>) -> bool
     ensures { result ≡ allow_small allow }
 {
     match allow {
-        Allow::Nobody => true,
-        Allow::Bounded(mover) => ground_rects::small(mover),
+        None => true,
+        Some(mover) => ground_rects::small(mover),
     }
 }
 
@@ -129,12 +126,12 @@ pub fn check_query(query: Query) -> Answer
 }
 
 // Whether the allowed mover's baseline, if there is one, has n bytes.
-fn allow_long(n: usize, allow: Allow, base: usize) -> bool
+fn allow_long(n: usize, allow: Option<Bounds>, base: usize) -> bool
     ensures { result ≡ allow_long n allow base }
 {
     match allow {
-        Allow::Nobody => true,
-        Allow::Bounded(_) => n <= base,
+        None => true,
+        Some(_) => n <= base,
     }
 }
 

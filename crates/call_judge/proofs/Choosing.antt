@@ -11,8 +11,8 @@ use borrow.Author.Tests.{leb-true}
 use Rattle.base_model.specs.Answers.{Said, refusal, ask, first}
 use Rattle.base_model.proofs.Asking.{ask_passes, first_passes, first_holds, first_fails}
 use Rattle.base_model.specs.declared.Rect.{Rect}
-use Rattle.base_model.specs.declared.Allow.{Allow}
-use Rattle.base_model.specs.declared.Allow.TheVariants.{Nobody, Bounded}
+use Rattle.base_model.specs.Allow.{Allow}
+use Rattle.std.specs.Prelude.{None, Some}
 use Rattle.base_model.specs.declared.Query.{Query}
 use Rattle.ground_rects.specs.Windows.{centres}
 use Rattle.rule_routes.specs.Edges.{steps_of, each_once}
@@ -98,8 +98,8 @@ module _ (i : Inputs) (s : List ℕ) (w : Work) where
 -- ---- the selection
 allow_ready : (w : Rect) (a : Allow) (base : List ℕ) → allow_small a ≡ true → allow_long (centres w) a (length base) ≡ true → AllowReady w a base
 unfolding allow_small allow_long AllowReady
-allow_ready w Nobody base e f = tt
-allow_ready w (Bounded m) base e f = (e, leb-true (centres w) (length base) f)
+allow_ready w None base e f = tt
+allow_ready w (Some m) base e f = (e, leb-true (centres w) (length base) f)
 
 pub chosen : (q : Query) (groups numbers : List ℕ) (edges : List ℤ) (block_base allow_base : List ℕ) (steps : List ℤ) (s : List ℕ) (w : Work)
     → first (judge_checks (inputs_of q groups numbers edges block_base allow_base) s w) ≡ none → each_once (steps_of steps) ≡ true

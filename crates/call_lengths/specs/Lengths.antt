@@ -1,6 +1,6 @@
 -- Areas that have so many entries, and the length of the points area.
 use Rattle.std.specs.Prelude.{ℕ, ◌*◌, min, ◌≡◌, length}
-use Rattle.base_model.specs.declared.Allow.TheVariants.{Nobody, Bounded}
+use Rattle.std.specs.Prelude.{None, Some}
 use Rattle.base_model.specs.declared.Limits.{Limits}
 use Rattle.base_model.specs.declared.Query.{Query}
 use Rattle.ground_rects.specs.Windows.{centres}
@@ -23,4 +23,4 @@ pub record StoreHas (a : Store) (k : StoreLengths) : Type 0 where
 
 -- the length of the points area
 unfoldable pub points_room : Query → Limits → ℕ
-points_room q l = elim q.allow [ Nobody ↦ 0 | Bounded m ↦ 2 * min 1000000 (l.results * centres q.window) ]
+points_room q l = elim q.allow [ None ↦ 0 | Some m ↦ 2 * min 1000000 (l.results * centres q.window) ]

@@ -7,7 +7,7 @@ ghost use Rattle.rule_layouts.specs.Inputs.{Inputs};
 ghost use Rattle.rule_calls.specs.Areas.{Work, Store, work_fits, store_fits};
 ghost use Rattle.call_lengths.specs.Lengths.{WorkHas, StoreHas, points_room};
 
-use base_model::{Allow, Limits, POINTS, Query, ROW, Rect, SLOTS, index};
+use base_model::{Limits, POINTS, Query, ROW, Rect, SLOTS, index};
 
 // How many entries the working areas have.
 #[derive(Clone, Copy)]
@@ -71,8 +71,8 @@ pub fn points_length(query: Query, limits: Limits) -> usize
 {
     let allow = query.allow;
     match allow {
-        Allow::Nobody => 0,
-        Allow::Bounded(_) => pairs(
+        None => 0,
+        Some(_) => pairs(
             index(limits.results)
                 * (ground_rects::width(query.window) * ground_rects::height(query.window)),
         ),

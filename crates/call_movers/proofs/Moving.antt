@@ -8,8 +8,8 @@ use lib.IntN.{ℤ}
 use lib.ListN.{length}
 use borrow.Author.Tests.{leb-true}
 use Rattle.base_model.specs.Answers.{Said, first}
-use Rattle.base_model.specs.declared.Allow.{Allow}
-use Rattle.base_model.specs.declared.Allow.TheVariants.{Nobody, Bounded}
+use Rattle.base_model.specs.Allow.{Allow}
+use Rattle.std.specs.Prelude.{None, Some}
 use Rattle.base_model.specs.declared.Bounds.{Bounds}
 use Rattle.base_model.specs.declared.Query.{Query}
 use Rattle.ground_rects.specs.Windows.{centres}
@@ -39,15 +39,15 @@ ready s h = record {
 
 -- ---- the allowed mover's
 module _ (steps : List Step) (q : Query) (base : List ℕ) where
-  pub nobody_passes : q.allow ≡ Nobody → none ≡ allow_passage steps q base
+  pub nobody_passes : q.allow ≡ None → none ≡ allow_passage steps q base
   unfolding allow_passage
   nobody_passes e = rw e
 
-  pub bounded_passes : (m : Bounds) → q.allow ≡ Bounded m → passage_over steps q.window q.start q.end base ≡ allow_passage steps q base
+  pub bounded_passes : (m : Bounds) → q.allow ≡ Some m → passage_over steps q.window q.start q.end base ≡ allow_passage steps q base
   unfolding allow_passage
   bounded_passes m e = rw e
 
-  pub bounded_room : (m : Bounds) → q.allow ≡ Bounded m → allow_long (centres q.window) q.allow (length base) ≡ true → centres q.window ≤ length base
+  pub bounded_room : (m : Bounds) → q.allow ≡ Some m → allow_long (centres q.window) q.allow (length base) ≡ true → centres q.window ≤ length base
   unfolding allow_long
   bounded_room m e h = leb-true (centres q.window) (length base) (ap (λ (x : Allow). allow_long (centres q.window) x (length base)) (sym e) ∙ h)
 
@@ -58,10 +58,10 @@ module _ (steps : List Step) (i : Inputs) (q : Query) (b a : List ℕ) (k : Base
   block_is = passage_is steps i i.query.block i.block_base ∙ rw (k.query, k.block)
 
   allow_by : (o : Allow) → first (elim (allowed_of i.query.window i.places o i.allow_base) [ none ↦ [] | some m ↦ route_checks (board_of steps i) m ])
-      ≡ elim o [ Nobody ↦ none | Bounded m ↦ passage_over steps i.query.window i.query.start i.query.end i.allow_base ]
+      ≡ elim o [ None ↦ none | Some m ↦ passage_over steps i.query.window i.query.start i.query.end i.allow_base ]
   unfolding allowed_of first
-  allow_by Nobody = refl
-  allow_by (Bounded m) = passage_is steps i m i.allow_base
+  allow_by None = refl
+  allow_by (Some m) = passage_is steps i m i.allow_base
 
   allow_is : first (elim (board_of steps i).allow [ none ↦ [] | some m ↦ route_checks (board_of steps i) m ]) ≡ allow_passage steps q a
   unfolding board_of allow_passage

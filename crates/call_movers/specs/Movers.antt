@@ -2,7 +2,7 @@
 use Rattle.std.specs.Prelude.{ℕ, ◌≤◌, ◌≡◌, true, List, length, take, replicate}
 use Rattle.std.proofs.Math.Option.{Option, none, some}
 use Rattle.base_model.specs.Answers.{Said}
-use Rattle.base_model.specs.declared.Allow.TheVariants.{Nobody, Bounded}
+use Rattle.std.specs.Prelude.{None, Some}
 use Rattle.base_model.specs.declared.Query.{Query}
 use Rattle.ground_rects.specs.Windows.{centres, window_fits, in_window}
 use Rattle.rule_routes.specs.Edges.{Step}
@@ -17,7 +17,7 @@ or_else (some r) b = some r
 
 -- for the allowed mover, if there is one
 unfoldable pub allow_passage : List Step → Query → List ℕ → Option Said
-allow_passage steps q base = elim q.allow [ Nobody ↦ none | Bounded m ↦ passage_over steps q.window q.start q.end base ]
+allow_passage steps q base = elim q.allow [ None ↦ none | Some m ↦ passage_over steps q.window q.start q.end base ]
 
 -- the ends lie in a window that passes 2, and three working areas are zero
 pub record Swept (q : Query) (queue predecessors route : List ℕ) : Type 0 where

@@ -12,7 +12,7 @@ ghost use Rattle.call_checks.specs.Parts.{allow_long};
 ghost use Rattle.ground_rects.specs.Windows.{centres};
 ghost use Rattle.call_movers.specs.Movers.{or_else, allow_passage, Swept, Movable, ThreeSame, Bases};
 
-use base_model::{Allow, Answer, Query};
+use base_model::{Answer, Query};
 
 // 7, 8 and 9 for the allowed mover, if there is one. The working areas are zero before and after.
 fn check_allowed(
@@ -30,7 +30,7 @@ fn check_allowed(
         queue.new predecessors.new route.new }
 {
     let allow = query.allow;
-    let Allow::Bounded(_) = allow else {
+    let Some(_) = allow else {
         return Answer::Done;
     };
     call_passage::check_passage(

@@ -8,8 +8,8 @@ use lib.IntN.{ℤ}
 use lib.ListN.{length}
 use borrow.Author.Tests.{leb-true}
 use Rattle.base_model.specs.Answers.{first, ask}
-use Rattle.base_model.specs.declared.Allow.{Allow}
-use Rattle.base_model.specs.declared.Allow.TheVariants.{Nobody, Bounded}
+use Rattle.base_model.specs.Allow.{Allow}
+use Rattle.std.specs.Prelude.{None, Some}
 use Rattle.base_model.specs.declared.Limits.{Limits}
 use Rattle.base_model.specs.declared.Query.{Query}
 use Rattle.base_model.specs.declared.Record.{Record}
@@ -38,8 +38,8 @@ use Rattle.search_steps.specs.Terms.{Terms, terms, board_in, plan_in, Given, Hol
 
 allow_ready : (w : Rect) (x : Allow) (base : List ℕ) → allow_small x ≡ true → allow_long (centres w) x (length base) ≡ true → AllowReady w x base
 unfolding allow_small allow_long AllowReady
-allow_ready w Nobody base e f = tt
-allow_ready w (Bounded m) base e f = (e, leb-true (centres w) (length base) f)
+allow_ready w None base e f = tt
+allow_ready w (Some m) base e f = (e, leb-true (centres w) (length base) f)
 
 module _ (q : Query) (l : Limits) (groups numbers : List ℕ) (edges : List ℤ) (block_base allow_base : List ℕ) (steps : List ℤ) (r : Record) (work : Work)
     (lists visited layouts points : List ℕ) where

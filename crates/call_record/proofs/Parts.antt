@@ -10,8 +10,8 @@ use lib.ListN.{length, take}
 use borrow.Author.Tests.{le-leb, leb-true, eq-eqb, eqb-true}
 use Rattle.base_laws.specs.Lists.{all_of, below, total}
 use Rattle.base_laws.proofs.Members.{both, both_true, same_truth, all_member, all_true}
-use Rattle.base_model.specs.declared.Allow.{Allow}
-use Rattle.base_model.specs.declared.Allow.TheVariants.{Nobody, Bounded}
+use Rattle.base_model.specs.Allow.{Allow}
+use Rattle.std.specs.Prelude.{None, Some}
 use Rattle.base_model.specs.declared.Limits.{Limits}
 use Rattle.base_model.specs.declared.Query.{Query}
 use Rattle.base_model.specs.declared.Record.{Record}
@@ -46,10 +46,10 @@ routes_parts : (i : Inputs) (xs : List ℕ) → routes_fit i xs ≡ routes_pass 
 unfolding routes_fit routes_pass cap_of
 routes_parts i xs = ap (λ (b : Bool). b && leb (total xs) 1000000) (go i.query.allow)
   where
-    go : (x : Allow) → all_of (λ (n : ℕ). leb n (centres i.query.window)) xs && elim x [ Nobody ↦ all_of (λ (n : ℕ). eqb n 0) xs | Bounded m ↦ true ]
-        ≡ all_of (λ (n : ℕ). leb n (elim x [ Nobody ↦ 0 | Bounded m ↦ centres i.query.window ])) xs
-    go Nobody = none_zero (centres i.query.window) xs
-    go (Bounded m) = and-true (all_of (λ (n : ℕ). leb n (centres i.query.window)) xs)
+    go : (x : Allow) → all_of (λ (n : ℕ). leb n (centres i.query.window)) xs && elim x [ None ↦ all_of (λ (n : ℕ). eqb n 0) xs | Some m ↦ true ]
+        ≡ all_of (λ (n : ℕ). leb n (elim x [ None ↦ 0 | Some m ↦ centres i.query.window ])) xs
+    go None = none_zero (centres i.query.window) xs
+    go (Some m) = and-true (all_of (λ (n : ℕ). leb n (centres i.query.window)) xs)
 
 list_parts : (i : Inputs) (r : Record) (a : Store) (k : ℕ) → list_fits i r a k ≡ list_passes (places_of i.groups i.places) r a.lists k
 unfolding list_fits list_passes head_fits stood stood_on entry_fits places_of

@@ -1,7 +1,7 @@
 -- Words of the contracts: what 16 asks of a record's numbers and of its kept routes.
 use Rattle.std.specs.Prelude.{ℕ, Bool, ◌&&◌, List, leb, eqb}
 use Rattle.base_laws.specs.Lists.{all_of, total}
-use Rattle.base_model.specs.declared.Allow.TheVariants.{Nobody, Bounded}
+use Rattle.std.specs.Prelude.{None, Some}
 use Rattle.base_model.specs.declared.Limits.{Limits}
 use Rattle.base_model.specs.declared.Query.{Query}
 use Rattle.base_model.specs.declared.Record.{Record}
@@ -13,7 +13,7 @@ figures_fit l n r = leb 1 r.reason && leb r.reason 4 && eqb r.placements n && le
 
 -- the most points that a kept route may have
 unfoldable pub cap_of : Query → ℕ
-cap_of q = elim q.allow [ Nobody ↦ 0 | Bounded m ↦ centres q.window ]
+cap_of q = elim q.allow [ None ↦ 0 | Some m ↦ centres q.window ]
 
 unfoldable pub routes_pass : ℕ → List ℕ → Bool
 routes_pass cap xs = all_of (λ (n : ℕ). leb n cap) xs && leb (total xs) 1000000

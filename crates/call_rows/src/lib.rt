@@ -7,9 +7,7 @@ ghost use Rattle.ground_rects.specs.Windows.{window_fits};
 ghost use Rattle.rule_calls.specs.RecordCheck.{row_fits};
 ghost use Rattle.call_rows.specs.Figures.{figures_fit, cap_of, routes_pass};
 
-use base_model::{
-    Allow, LAYOUTS, Limits, POINTS, Query, RESULT_LIMIT, ROW, RUNNING, Record, SLOTS, index, member,
-};
+use base_model::{LAYOUTS, Limits, POINTS, Query, RESULT_LIMIT, ROW, RUNNING, Record, SLOTS, index, member};
 
 // Whether the reason is named, the placement number right, and evaluations and layouts within their limits.
 pub fn numbers_fit(limits: Limits, n: usize, rec: Record) -> bool
@@ -91,8 +89,8 @@ pub fn route_cap(query: Query) -> usize
 {
     let allow = query.allow;
     match allow {
-        Allow::Nobody => 0,
-        Allow::Bounded(_) => ground_rects::width(query.window) * ground_rects::height(query.window),
+        None => 0,
+        Some(_) => ground_rects::width(query.window) * ground_rects::height(query.window),
     }
 }
 

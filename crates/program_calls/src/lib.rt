@@ -1,7 +1,7 @@
 // The calls of a stored search, by value, each answer printed on a line; the areas at the sizes of the largest search.
 #![tactic(auto)]
 
-use base_model::{Allow, Bounds, Judged, LAYOUTS, ROW, Record, SLOTS};
+use base_model::{Bounds, Judged, LAYOUTS, ROW, Record, SLOTS};
 use program_words::stored::Head;
 use program_words::{answers, say};
 use std::io;
@@ -99,8 +99,8 @@ pub fn prepare_allowed<W: Write>(
     let query = head.query;
     let allow = query.allow;
     match allow {
-        Allow::Nobody => Ok(true),
-        Allow::Bounded(mover) => prepare_mover(
+        None => Ok(true),
+        Some(mover) => prepare_mover(
             out,
             b"allow",
             head,

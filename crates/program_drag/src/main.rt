@@ -2,7 +2,7 @@
 // call it prints the answer, the counts row by row, and the verdict on the ground with no building on it.
 #![tactic(auto)]
 
-use base_model::{Allow, Answer, Bounds, Judged, Position, Query, Rect};
+use base_model::{Answer, Bounds, Judged, Position, Query, Rect};
 use program_words::{answers, say};
 use std::io;
 use std::io::Write;
@@ -97,7 +97,7 @@ fn judge_ground<W: Write>(out: &mut W, steps: &[i32], baseline: &Baseline) -> io
         start: START,
         end: END,
         block: MOVER,
-        allow: Allow::Nobody,
+        allow: None,
     };
     let mut counts = [0i32; CORNERS];
     let mut map = [0u8; CENTRES];

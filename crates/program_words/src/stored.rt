@@ -2,7 +2,7 @@
 ghost use Rattle.std.specs.Prelude.{◌≤◌};
 
 use crate::words;
-use base_model::{Allow, Bounds, EDGES, Limits, NUMBERS, Position, Query, ROW, Rect, SIDES};
+use base_model::{Bounds, EDGES, Limits, NUMBERS, Position, Query, ROW, Rect, SIDES};
 
 // Where the numbers of a line stand: one number each, but for the window's four, each end's two, the blocked mover's four, and the
 // allowed mover's five, the first of which is 0 where there is none.
@@ -79,14 +79,14 @@ fn bounds_at(xs: &[u32], i: usize) -> Bounds {
     }
 }
 
-fn allow_at(xs: &[u32], i: usize) -> Allow {
+fn allow_at(xs: &[u32], i: usize) -> Option<Bounds> {
     if RUNS < i {
-        return Allow::Nobody;
+        return None;
     }
     if words::at(xs, i) == 0 {
-        return Allow::Nobody;
+        return None;
     }
-    Allow::Bounded(bounds_at(xs, i + 1))
+    Some(bounds_at(xs, i + 1))
 }
 
 // The query of a line.

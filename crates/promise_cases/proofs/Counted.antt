@@ -6,7 +6,7 @@ use mathlib.Core.List.{List, [], ◌∷◌, ◌++◌}
 use lib.IntN.{ℤ, pos}
 use Rattle.base_laws.specs.Fill.{filled}
 use Rattle.base_model.specs.declared.Rect.{Rect}
-use Rattle.base_model.specs.declared.Allow.TheVariants.{Bounded}
+use Rattle.std.specs.Prelude.{Some}
 use Rattle.base_model.specs.declared.Limits.{Limits}
 use Rattle.base_model.specs.declared.Verdict.TheVariants.{Open, Shut, Wall}
 use Rattle.rule_covers.specs.Covers.{one_more, may_rise, off_centre, changed, may_change, change_checks, change_call, cover_call}
@@ -42,7 +42,7 @@ use Rattle.rule_calls.proofs.Drive.{
 
 -- the window of input P (RULES 9.7); a place in the middle of its centre column, and one in a corner
 unfoldable over_bases : (block allow : List ℕ) → Inputs
-over_bases block allow = given W (at 0 1) (at 4 1) still0 (Bounded still0) (1 ∷ []) (plain (box 2 1 3 2) ∷ plain (box 0 2 1 3) ∷ []) block allow
+over_bases block allow = given W (at 0 1) (at 4 1) still0 (Some still0) (1 ∷ []) (plain (box 2 1 3 2) ∷ plain (box 0 2 1 3) ∷ []) block allow
 
 -- begun, stepped by 1 and by 9, and every layout read; or the refusal
 unfoldable searched : Inputs → Shown

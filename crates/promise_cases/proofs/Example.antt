@@ -6,7 +6,7 @@ use mathlib.Core.Option.{Option, none, some, none-ne-some}
 use mathlib.Core.List.{List, [], ◌∷◌, map}
 use Rattle.base_laws.specs.Lists.{below}
 use Rattle.base_model.specs.Answers.{Said, refusal}
-use Rattle.base_model.specs.declared.Allow.TheVariants.{Bounded}
+use Rattle.std.specs.Prelude.{Some}
 use Rattle.base_model.specs.declared.Limits.{Limits}
 use Rattle.rule_routes.specs.Edges.{original_steps}
 use Rattle.rule_routes.proofs.Cases.{diagonals_first}
@@ -41,12 +41,12 @@ use Rattle.promise.proofs.Kept.{promise}
 
 -- The blocked mover reaches one pixel up, so that either place shuts it out of both rows left to it; the allowed mover gets by in the last row.
 unfoldable pub gap : Inputs
-gap = inputs_of (on_open_cell (box 0 0 5 3) (at 0 1) (at 4 1) (bounds 0 1 0 0) (Bounded still0) (limits 10 4) (1 ∷ [])
+gap = inputs_of (on_open_cell (box 0 0 5 3) (at 0 1) (at 4 1) (bounds 0 1 0 0) (Some still0) (limits 10 4) (1 ∷ [])
     (plain (box 2 0 3 2) ∷ plain (box 1 0 2 2) ∷ []))
 
 -- another search's inputs: no places
 unfoldable pub other : Inputs
-other = inputs_of (on_open_cell (box 0 0 5 3) (at 0 1) (at 4 1) still0 (Bounded still0) (limits 10 4) [] [])
+other = inputs_of (on_open_cell (box 0 0 5 3) (at 0 1) (at 4 1) still0 (Some still0) (limits 10 4) [] [])
 
 -- one search's own step and reading
 unfoldable pub step_by : Inputs → Limits → ℕ → Call

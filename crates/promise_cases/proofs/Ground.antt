@@ -8,8 +8,8 @@ use lib.IntN.{ℤ}
 use lib.ListN.{replicate}
 use Rattle.base_laws.specs.Lists.{HowMany}
 use Rattle.base_model.specs.declared.Placement.{Placement}
-use Rattle.base_model.specs.declared.Allow.{Allow}
-use Rattle.base_model.specs.declared.Allow.TheVariants.{Nobody, Bounded}
+use Rattle.base_model.specs.Allow.{Allow}
+use Rattle.std.specs.Prelude.{None, Some}
 use Rattle.base_model.specs.declared.Verdict.TheVariants.{Slots, Overlap, EndCovered, Open, Spare, Shut, Wall}
 use Rattle.rule_routes.specs.Edges.{steps_of, original_steps}
 use Rattle.rule_layouts.specs.Inputs.{Inputs, board_of}
@@ -35,7 +35,7 @@ lane a b allow counts =
 
 -- over open ground, without an allowed mover
 unfoldable clear : (start end : ℕ) → Inputs
-clear a b = lane a b Nobody (replicate 4 0)
+clear a b = lane a b None (replicate 4 0)
 
 unfoldable judged_on : Inputs → List ℕ → Judgement
 judged_on i s = (judge_call original_steps i s (work_for i.query.window)).answer
@@ -58,12 +58,12 @@ along =
     ∷ (judged_on (clear 0 3) (0 ∷ 1 ∷ 2 ∷ []) gives judges Slots 0)
     ∷ (judged_on (clear 3 0) (1 ∷ 4 ∷ []) gives judges Overlap 1)
     ∷ (judged_on (clear 0 3) (1 ∷ 2 ∷ []) gives judges Spare 1)
-    ∷ (judged_on (lane 3 0 (Bounded still0) (replicate 4 0)) (1 ∷ []) gives judges Shut 2)
+    ∷ (judged_on (lane 3 0 (Some still0) (replicate 4 0)) (1 ∷ []) gives judges Shut 2)
     -- counts close: the start, ground beyond the end, ground between the ends
-    ∷ (judged_on (lane 0 3 Nobody (2 ∷ 0 ∷ 0 ∷ 0 ∷ [])) [] gives judges EndCovered 0)
-    ∷ (judged_on (lane 0 1 Nobody (0 ∷ 0 ∷ 255 ∷ 0 ∷ [])) [] gives judges Open 2)
-    ∷ (judged_on (lane 0 3 Nobody (0 ∷ 2 ∷ 0 ∷ 0 ∷ [])) [] gives judges Wall 1)
-    ∷ (judged_on (lane 3 0 Nobody (0 ∷ 255 ∷ 0 ∷ 0 ∷ [])) [] gives judges Wall 2)
+    ∷ (judged_on (lane 0 3 None (2 ∷ 0 ∷ 0 ∷ 0 ∷ [])) [] gives judges EndCovered 0)
+    ∷ (judged_on (lane 0 1 None (0 ∷ 0 ∷ 255 ∷ 0 ∷ [])) [] gives judges Open 2)
+    ∷ (judged_on (lane 0 3 None (0 ∷ 2 ∷ 0 ∷ 0 ∷ [])) [] gives judges Wall 1)
+    ∷ (judged_on (lane 3 0 None (0 ∷ 255 ∷ 0 ∷ 0 ∷ [])) [] gives judges Wall 2)
     ∷ []
 
 lane_ground : gots along ≡ wants along
@@ -72,7 +72,7 @@ lane_ground = refl
 
 -- ---- two by two centres, from one corner to the other, in a window away from the map's corner; a placement on each of the other two
 unfoldable gap : (counts : List ℕ) → Inputs
-gap counts = given (box 5 7 7 9) (at 5 7) (at 6 8) still0 Nobody (2 ∷ []) (plain (box 6 7 7 8) ∷ plain (box 5 8 6 9) ∷ []) counts []
+gap counts = given (box 5 7 7 9) (at 5 7) (at 6 8) still0 None (2 ∷ []) (plain (box 6 7 7 8) ∷ plain (box 5 8 6 9) ∷ []) counts []
 
 -- round one of them a way is left; between both no step leads, nor between two that counts close, nor between one of each
 diagonal : List (Row Judgement)
@@ -82,7 +82,7 @@ diagonal =
     ∷ (judged_on (gap (0 ∷ 2 ∷ 255 ∷ 0 ∷ [])) [] gives judges Wall 1)
     ∷ (judged_on (gap (0 ∷ 2 ∷ 0 ∷ 0 ∷ [])) (1 ∷ []) gives judges Wall 1)
     -- a mover that reaches one to the left is kept off the placement's centre and off the next
-    ∷ (judged_on (given (box 5 7 9 8) (at 8 7) (at 5 7) (bounds 1 0 0 0) Nobody (1 ∷ []) (plain (box 6 7 7 8) ∷ []) (replicate 4 0) []) (0 ∷ []) gives judges Wall 1)
+    ∷ (judged_on (given (box 5 7 9 8) (at 8 7) (at 5 7) (bounds 1 0 0 0) None (1 ∷ []) (plain (box 6 7 7 8) ∷ []) (replicate 4 0) []) (0 ∷ []) gives judges Wall 1)
     ∷ []
 
 diagonal_ground : gots diagonal ≡ wants diagonal

@@ -12,8 +12,8 @@ use Rattle.base_model.specs.Answers.{Said, first}
 use Rattle.base_model.specs.declared.Rect.{Rect}
 use Rattle.base_model.specs.declared.Bounds.{Bounds}
 use Rattle.base_model.specs.declared.Placement.{Placement}
-use Rattle.base_model.specs.declared.Allow.{Allow}
-use Rattle.base_model.specs.declared.Allow.TheVariants.{Nobody, Bounded}
+use Rattle.base_model.specs.Allow.{Allow}
+use Rattle.std.specs.Prelude.{None, Some}
 use Rattle.base_model.specs.declared.Limits.{Limits}
 use Rattle.base_model.specs.declared.Record.{Record}
 use Rattle.ground_rects.specs.Windows.{centres}
@@ -48,8 +48,8 @@ mover_same w ps m counts =
 
 allowed_same : (w : Rect) (ps : List Placement) (a : Allow) (counts : List ℕ) → allowed_of w ps a (as_bits counts) ≡ allowed_of w ps a counts
 unfolding allowed_of
-allowed_same w ps Nobody counts = refl
-allowed_same w ps (Bounded m) counts = ap some (mover_same w ps m counts)
+allowed_same w ps None counts = refl
+allowed_same w ps (Some m) counts = ap some (mover_same w ps m counts)
 
 board_same : (steps : List Step) (i : Inputs) → board_of steps (on_bits i) ≡ board_of steps i
 unfolding board_of on_bits with_bases
@@ -60,7 +60,7 @@ fit_same : (i : Inputs) → bases_fit (on_bits i) ≡ bases_fit i
 unfolding bases_fit on_bits with_bases
 fit_same i =
     let c : ℕ = centres i.query.window in
-    ap₂ (λ (block allow : ℕ). leb c block && elim i.query.allow [ Nobody ↦ true | Bounded m ↦ leb c allow ])
+    ap₂ (λ (block allow : ℕ). leb c block && elim i.query.allow [ None ↦ true | Some m ↦ leb c allow ])
     (length_bits i.block_base) (length_bits i.allow_base)
 
 -- ---- the calls

@@ -14,8 +14,8 @@ use Rattle.base_laws.specs.Lists.{all_of, below, total, flat, padded, ascends}
 use Rattle.base_laws.specs.Fill.{zeros}
 use Rattle.base_laws.proofs.Members.{both_true, all_true, get_d_member}
 use Rattle.base_laws.proofs.Lists.{below_out}
-use Rattle.base_model.specs.declared.Allow.{Allow}
-use Rattle.base_model.specs.declared.Allow.TheVariants.{Nobody, Bounded}
+use Rattle.base_model.specs.Allow.{Allow}
+use Rattle.std.specs.Prelude.{None, Some}
 use Rattle.base_model.specs.declared.Limits.{Limits}
 use Rattle.base_model.specs.declared.Record.{Record}
 use Rattle.ground_rects.specs.Windows.{centres}
@@ -153,10 +153,10 @@ module _ (steps : List Step) (i : Inputs) (l : Limits) (s : State) (good : Good 
       (le-leb (total (map route_length s.layouts)) 1000000 good.limits.points)
     where
       go : (x : Allow) → ((y : Layout) → Memᴰ y s.layouts → allowed_of i.query.window i.places x i.allow_base ≡ none → y.route ≡ [])
-          → elim x [ Nobody ↦ all_of (λ (n : ℕ). eqb n 0) (map route_length s.layouts) | Bounded m ↦ true ] ≡ true
-      go Nobody h = all_true (λ (n : ℕ). eqb n 0) (map route_length s.layouts)
+          → elim x [ None ↦ all_of (λ (n : ℕ). eqb n 0) (map route_length s.layouts) | Some m ↦ true ] ≡ true
+      go None h = all_true (λ (n : ℕ). eqb n 0) (map route_length s.layouts)
           (λ n m. let o = Memᴰ.of_map route_length s.layouts m in eq-eqb n 0 (sym o.2 ∙ ap length (h o.0 o.1 refl)))
-      go (Bounded m) h = refl
+      go (Some m) h = refl
 
   module _ (a : Store) where
     abbrev n : ℕ

@@ -9,7 +9,7 @@ use Rattle.base_laws.specs.Lists.{flat}
 use Rattle.base_model.specs.Answers.{first}
 use Rattle.base_model.specs.declared.Rect.{Rect}
 use Rattle.base_model.specs.declared.Bounds.{Bounds}
-use Rattle.base_model.specs.declared.Allow.TheVariants.{Nobody, Bounded}
+use Rattle.std.specs.Prelude.{None, Some}
 use Rattle.ground_rects.specs.Rects.{rect}
 use Rattle.ground_rects.specs.Windows.{centres}
 use Rattle.rule_routes.specs.Edges.{original_steps}
@@ -89,7 +89,7 @@ window_bounds = refl
 
 -- ---- begin
 pub slots : List ℕ → ℕ × List ℕ
-slots groups = begin_answer (given W (at 0 1) (at 4 1) still0 Nobody groups [] open0 []) (limits 1 1)
+slots groups = begin_answer (given W (at 0 1) (at 4 1) still0 None groups [] open0 []) (limits 1 1)
 
 pub beginning : List (Row (ℕ × List ℕ))
 beginning =
@@ -139,10 +139,10 @@ pub prepares_for : Bounds → ℕ × List ℕ
 prepares_for m = prepare_answer 1 1 (1 ∷ []) [] m
 
 pub blocks : Bounds → ℕ × List ℕ
-blocks m = begin_answer (given W (at 0 1) (at 4 1) m Nobody [] [] open0 []) (limits 1 1)
+blocks m = begin_answer (given W (at 0 1) (at 4 1) m None [] [] open0 []) (limits 1 1)
 
 pub allows : Bounds → ℕ × List ℕ
-allows m = begin_answer (given W (at 0 1) (at 4 1) still0 (Bounded m) [] [] open0 open0) (limits 1 1)
+allows m = begin_answer (given W (at 0 1) (at 4 1) still0 (Some m) [] [] open0 open0) (limits 1 1)
 
 pub sides : List (Row (List (ℕ × List ℕ)))
 sides =

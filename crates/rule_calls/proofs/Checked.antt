@@ -16,8 +16,8 @@ use Rattle.base_laws.proofs.Members.{both, all_member, get_d_member}
 use Rattle.base_laws.proofs.Lists.{length_below, below_out}
 use Rattle.base_model.specs.declared.Rect.{Rect}
 use Rattle.base_model.specs.declared.Placement.{Placement}
-use Rattle.base_model.specs.declared.Allow.{Allow}
-use Rattle.base_model.specs.declared.Allow.TheVariants.{Nobody, Bounded}
+use Rattle.base_model.specs.Allow.{Allow}
+use Rattle.std.specs.Prelude.{None, Some}
 use Rattle.base_model.specs.declared.Limits.{Limits}
 use Rattle.base_model.specs.declared.Record.{Record}
 use Rattle.ground_rects.specs.Windows.{centres}
@@ -107,9 +107,9 @@ routes_each i xs e n m =
       unless = go i.query.allow q.1;
     }
   where
-    go : (x : Allow) → elim x [ Nobody ↦ all_of (λ (n : ℕ). eqb n 0) xs | Bounded b ↦ true ] ≡ true → (w : Rect) (ps : List Placement) (base : List ℕ) → allowed_of w ps x base ≡ none → n ≡ 0
-    go Nobody q w ps base o = eqb-true n 0 (all_member (λ (n : ℕ). eqb n 0) xs q n m)
-    go (Bounded b) q w ps base o = absurd (let z : ◌≡◌ {A = ℕ} 0 1 = cc in let w : ⊥ = omega arith in w)
+    go : (x : Allow) → elim x [ None ↦ all_of (λ (n : ℕ). eqb n 0) xs | Some b ↦ true ] ≡ true → (w : Rect) (ps : List Placement) (base : List ℕ) → allowed_of w ps x base ≡ none → n ≡ 0
+    go None q w ps base o = eqb-true n 0 (all_member (λ (n : ℕ). eqb n 0) xs q n m)
+    go (Some b) q w ps base o = absurd (let z : ◌≡◌ {A = ℕ} 0 1 = cc in let w : ⊥ = omega arith in w)
 
 pub routes_sum : (i : Inputs) (xs : List ℕ) → routes_fit i xs ≡ true → total xs ≤ 1000000
 unfolding routes_fit

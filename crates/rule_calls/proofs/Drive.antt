@@ -12,8 +12,8 @@ use Rattle.base_model.specs.declared.Rect.{Rect}
 use Rattle.base_model.specs.declared.Bounds.{Bounds}
 use Rattle.base_model.specs.declared.Position.{Position}
 use Rattle.base_model.specs.declared.Placement.{Placement}
-use Rattle.base_model.specs.declared.Allow.{Allow}
-use Rattle.base_model.specs.declared.Allow.TheVariants.{Nobody, Bounded}
+use Rattle.base_model.specs.Allow.{Allow}
+use Rattle.std.specs.Prelude.{None, Some}
 use Rattle.base_model.specs.declared.Limits.{Limits}
 use Rattle.ground_rects.specs.Rects.{rect}
 use Rattle.ground_rects.specs.Windows.{centres}
@@ -102,12 +102,12 @@ prepared s m = prepare_call original_steps
     (nines (centres s.window)) (work_for s.window)
 
 unfoldable pub allow_base_of : Case → Allow → List ℕ
-allow_base_of s Nobody = []
-allow_base_of s (Bounded m) = (prepared s m).baseline
+allow_base_of s None = []
+allow_base_of s (Some m) = (prepared s m).baseline
 
 unfoldable pub allow_answer_of : Case → Allow → Option Said
-allow_answer_of s Nobody = none
-allow_answer_of s (Bounded m) = (prepared s m).answer
+allow_answer_of s None = none
+allow_answer_of s (Some m) = (prepared s m).answer
 
 unfoldable pub inputs_of : Case → Inputs
 inputs_of s = record {
@@ -191,7 +191,7 @@ unfoldable pub P : Allow → (states results : ℕ) → List ℕ → List Placem
 P allow states results groups ps = on_open_cell (box 0 0 5 3) (at 0 1) (at 4 1) still0 allow (limits states results) groups ps
 
 unfoldable pub P0 : Case
-P0 = P Nobody 100 32 (2 ∷ []) places_p
+P0 = P None 100 32 (2 ∷ []) places_p
 
 -- ---- inputs on P's window
 unfoldable pub W : Rect
@@ -214,7 +214,7 @@ open0 = replicate 15 0
 
 -- P's window over open ground, without an allowed mover
 unfoldable pub alone : List Placement → Inputs
-alone ps = given W (at 0 1) (at 4 1) still0 Nobody (2 ∷ []) ps open0 []
+alone ps = given W (at 0 1) (at 4 1) still0 None (2 ∷ []) ps open0 []
 
 unfoldable pub good : Placement
 good = plain (box 2 0 3 3)
@@ -226,7 +226,7 @@ prepare_window across down w = get_or (prepare_checks
     [] (work_for W)) 1 none
 
 unfoldable pub begin_window : Rect → Option Said
-begin_window w = get_or (query_checks (given w (at 0 0) (at 0 0) still0 Nobody [] [] [] []) true) 0 none
+begin_window w = get_or (query_checks (given w (at 0 0) (at 0 0) still0 None [] [] [] []) true) 0 none
 
 -- ---- a name under which all of this unfolds
 unfoldable pub driving : ℕ

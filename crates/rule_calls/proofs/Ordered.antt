@@ -4,7 +4,7 @@ use mathlib.Core.List.{List, [], ◌∷◌, map}
 use lib.IntN.{ℤ}
 use lib.ListN.{replicate}
 use Rattle.base_model.specs.Answers.{refusal}
-use Rattle.base_model.specs.declared.Allow.TheVariants.{Nobody}
+use Rattle.std.specs.Prelude.{None}
 use Rattle.rule_routes.proofs.Cases.{diagonals_first, unfit}
 use Rattle.rule_layouts.specs.Inputs.{Inputs}
 use Rattle.rule_calls.specs.Calls.{Prepared, prepare_call, After, no_record, begin_call, step_call, refuses, AfterJudge, judge_call}
@@ -13,7 +13,7 @@ use Rattle.rule_calls.proofs.Drive.{at, box, limits, work_for, store_for, still0
 
 -- ---- 19, where all else is wrong too: a cell of 2, seven slots, limits of 0, an empty window, a record of no search, a selection that names no placement
 wrong_inputs : Inputs
-wrong_inputs = given (box 0 0 0 0) (at 9 9) (at 9 9) still0 Nobody (7 ∷ []) [] [] []
+wrong_inputs = given (box 0 0 0 0) (at 9 9) (at 9 9) still0 None (7 ∷ []) [] [] []
 
 by_prepare : List ℤ → Prepared
 by_prepare table = prepare_call table

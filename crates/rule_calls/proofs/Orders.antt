@@ -5,7 +5,7 @@ use mathlib.Core.Path.{◌≡◌, refl}
 use mathlib.Core.Option.{some}
 use mathlib.Core.List.{List, [], ◌∷◌, ◌++◌, map}
 use lib.ListN.{replicate}
-use Rattle.base_model.specs.declared.Allow.TheVariants.{Nobody, Bounded}
+use Rattle.std.specs.Prelude.{None, Some}
 use Rattle.base_model.specs.declared.Limits.{Limits}
 use Rattle.rule_routes.specs.Edges.{original_steps}
 use Rattle.rule_layouts.specs.Inputs.{Inputs}
@@ -52,8 +52,8 @@ pub limited : List Faulty
 limited =
     (alone [] with limits 0 33 is number 11)
     ∷ (alone [] with limits 100001 0 is number 11)
-    ∷ (given (box 0 0 0 0) (at 0 1) (at 4 1) still0 Nobody (2 ∷ []) [] open0 [] with limits 5 33 is number 12)
-    ∷ (given (box 0 0 0 0) (at 0 1) (at 4 1) still0 Nobody (2 ∷ []) [] open0 [] with limits 5 0 is number 12)
+    ∷ (given (box 0 0 0 0) (at 0 1) (at 4 1) still0 None (2 ∷ []) [] open0 [] with limits 5 33 is number 12)
+    ∷ (given (box 0 0 0 0) (at 0 1) (at 4 1) still0 None (2 ∷ []) [] open0 [] with limits 5 0 is number 12)
     ∷ []
 
 pub limits_in_order : map by_begin limited ∷ map by_step limited ∷ map by_reading limited ∷ [] ≡ replicate 3 (map wanted limited)
@@ -64,21 +64,21 @@ limits_in_order = refl
 pub faulty : List Faulty
 faulty =
     -- 10, then 2
-    (given (box 0 0 0 0) (at 0 1) (at 4 1) still0 Nobody (7 ∷ []) [] open0 [] with few is number 10)
+    (given (box 0 0 0 0) (at 0 1) (at 4 1) still0 None (7 ∷ []) [] open0 [] with few is number 10)
     -- 2, then 3
-    ∷ (given (box 0 0 8193 1) (at 0 9) (at 0 0) still0 Nobody (2 ∷ []) [] [] [] with few is number 2)
+    ∷ (given (box 0 0 8193 1) (at 0 9) (at 0 0) still0 None (2 ∷ []) [] [] [] with few is number 2)
     -- 3 for the start and for the end, then 4
-    ∷ (given W (at 5 1) (at 4 1) (reach 257) Nobody (2 ∷ []) [] open0 [] with few is number 3)
-    ∷ (given W (at 0 1) (at 4 3) (reach 257) Nobody (2 ∷ []) [] open0 [] with few is number 3)
+    ∷ (given W (at 5 1) (at 4 1) (reach 257) None (2 ∷ []) [] open0 [] with few is number 3)
+    ∷ (given W (at 0 1) (at 4 3) (reach 257) None (2 ∷ []) [] open0 [] with few is number 3)
     -- 4 for each mover, then 6
-    ∷ (given W (at 0 1) (at 4 1) (reach 257) Nobody (2 ∷ []) [] [] [] with few is number 4)
-    ∷ (given W (at 0 1) (at 4 1) still0 (Bounded (reach 257)) (2 ∷ []) [] [] [] with few is number 4)
+    ∷ (given W (at 0 1) (at 4 1) (reach 257) None (2 ∷ []) [] [] [] with few is number 4)
+    ∷ (given W (at 0 1) (at 4 1) still0 (Some (reach 257)) (2 ∷ []) [] [] [] with few is number 4)
     -- 6 for each baseline, then 15 (7 for begin)
-    ∷ (given W (at 0 1) (at 4 1) still0 Nobody (2 ∷ []) (place 6 0 W W ∷ []) (replicate 14 2) [] with few is number 6)
-    ∷ (given W (at 0 1) (at 4 1) still0 (Bounded still0) (2 ∷ []) (place 6 0 W W ∷ []) open0 (replicate 14 2) with few is number 6)
+    ∷ (given W (at 0 1) (at 4 1) still0 None (2 ∷ []) (place 6 0 W W ∷ []) (replicate 14 2) [] with few is number 6)
+    ∷ (given W (at 0 1) (at 4 1) still0 (Some still0) (2 ∷ []) (place 6 0 W W ∷ []) open0 (replicate 14 2) with few is number 6)
     -- 15 with its index, then 16 or 17; counts above 1 in a baseline are no fault
-    ∷ (given W (at 0 1) (at 4 1) still0 Nobody (2 ∷ []) (place 6 0 W W ∷ []) (2 ∷ replicate 13 0 ++ 255 ∷ []) [] with few is (15, 0 ∷ []))
-    ∷ (given W (at 0 1) (at 4 1) still0 (Bounded still0) (2 ∷ []) (place 6 0 W W ∷ []) open0 (255 ∷ replicate 13 0 ++ 2 ∷ []) with few is (15, 0 ∷ []))
+    ∷ (given W (at 0 1) (at 4 1) still0 None (2 ∷ []) (place 6 0 W W ∷ []) (2 ∷ replicate 13 0 ++ 255 ∷ []) [] with few is (15, 0 ∷ []))
+    ∷ (given W (at 0 1) (at 4 1) still0 (Some still0) (2 ∷ []) (place 6 0 W W ∷ []) open0 (255 ∷ replicate 13 0 ++ 2 ∷ []) with few is (15, 0 ∷ []))
     ∷ (alone (good ∷ place 6 0 W W ∷ []) with few is (15, 1 ∷ []))
     ∷ []
 

@@ -7,7 +7,7 @@ use mathlib.Core.Option.{none}
 use mathlib.Core.List.{List, [], ◌∷◌, ◌++◌}
 use lib.ListN.{replicate}
 use Rattle.base_model.specs.declared.Record.{Record}
-use Rattle.base_model.specs.declared.Allow.TheVariants.{Nobody, Bounded}
+use Rattle.std.specs.Prelude.{None, Some}
 use Rattle.rule_routes.specs.Edges.{original_steps}
 use Rattle.rule_layouts.specs.Inputs.{Inputs}
 use Rattle.rule_search.specs.State.{Reason, Running, Exhausted, StateLimit, ResultLimit}
@@ -132,7 +132,7 @@ second n k first more = said (step_call original_steps inputs (limits 5 2)
 
 -- as in `inputs`, with one slot alone
 pub one_slot : ℕ × List ℕ
-one_slot = said (step_call original_steps (given W (at 0 1) (at 4 1) still0 Nobody (1 ∷ []) places_p open0 []) (limits 5 2)
+one_slot = said (step_call original_steps (given W (at 0 1) (at 4 1) still0 None (1 ∷ []) places_p open0 []) (limits 5 2)
     (record {
       reason = 1;
       evaluations = 2;
@@ -179,7 +179,7 @@ pub pointed : Store
 pointed = record { lists = replicate 18 0; visited = replicate 35 0; layouts = replicate 14 0; points = 10 ∷ 11 ∷ 12 ∷ 13 ∷ 14 ∷ 15 ∷ replicate 54 0 }
 
 pub with_allowed : Inputs
-with_allowed = given W (at 0 1) (at 4 1) still0 (Bounded still0) (2 ∷ []) places_p open0 open0
+with_allowed = given W (at 0 1) (at 4 1) still0 (Some still0) (2 ∷ []) places_p open0 open0
 
 pub reading : List (Row ReadOut)
 reading =
@@ -200,7 +200,7 @@ reading_gives = refl
 
 -- their sum is at most 1,000,000, on a window of 1,024 by 1,024 centres
 pub wide : Inputs
-wide = given (box 0 0 1024 1024) (at 0 1) (at 4 1) still0 (Bounded still0) [] [] [] []
+wide = given (box 0 0 1024 1024) (at 0 1) (at 4 1) still0 (Some still0) [] [] [] []
 
 pub sums : routes_fit wide (1000000 ∷ []) ∷ routes_fit wide (999999 ∷ 1 ∷ []) ∷ routes_fit wide (1000000 ∷ 1 ∷ []) ∷ [] ≡ true ∷ true ∷ false ∷ []
 unfolding computing driving wide

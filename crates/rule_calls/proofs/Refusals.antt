@@ -10,7 +10,7 @@ use Rattle.base_model.specs.Answers.{Said}
 use Rattle.base_model.specs.declared.Rect.{Rect}
 use Rattle.base_model.specs.declared.Bounds.{Bounds}
 use Rattle.base_model.specs.declared.Position.{Position}
-use Rattle.base_model.specs.declared.Allow.TheVariants.{Nobody, Bounded}
+use Rattle.std.specs.Prelude.{None, Some}
 use Rattle.base_model.specs.declared.Limits.{Limits}
 use Rattle.base_model.specs.declared.Refusal.TheVariants.{PlacementInvalid}
 use Rattle.base_model.specs.declared.Verdict.TheVariants.{Slots, Spare, Wall}
@@ -96,22 +96,22 @@ prepare_leaves_lem = refl
 -- ---- begin
 -- P's window with an allowed mover
 pub both : List ℕ → List ℕ → Inputs
-both base other = given W (at 0 1) (at 4 1) still0 (Bounded still0) (2 ∷ []) [] base other
+both base other = given W (at 0 1) (at 4 1) still0 (Some still0) (2 ∷ []) [] base other
 
 unfoldable pub begin_answer : Inputs → Limits → ℕ × List ℕ
 begin_answer i l = said (begins i l).answer
 
 pub beginning : List (Row (ℕ × List ℕ))
 beginning =
-    (begin_answer (given W (at 9 1) (at 4 1) still0 Nobody (4 ∷ 3 ∷ []) (good ∷ []) open0 []) (limits 0 0) gives number 10)
-    ∷ (begin_answer (given W (at 0 1) (at 4 1) still0 Nobody (0 ∷ []) (good ∷ []) open0 []) (limits 5 5) gives number 10)
-    ∷ (begin_answer (given W (at 0 1) (at 4 1) still0 Nobody (replicate 7 1) [] open0 []) (limits 5 5) gives number 10)
+    (begin_answer (given W (at 9 1) (at 4 1) still0 None (4 ∷ 3 ∷ []) (good ∷ []) open0 []) (limits 0 0) gives number 10)
+    ∷ (begin_answer (given W (at 0 1) (at 4 1) still0 None (0 ∷ []) (good ∷ []) open0 []) (limits 5 5) gives number 10)
+    ∷ (begin_answer (given W (at 0 1) (at 4 1) still0 None (replicate 7 1) [] open0 []) (limits 5 5) gives number 10)
     ∷ (begin_answer (alone []) (limits 0 0) gives number 11)
     ∷ (begin_answer (alone []) (limits 100001 0) gives number 11)
-    ∷ (begin_answer (given (box 0 0 0 0) (at 0 1) (at 4 1) still0 Nobody [] [] [] []) (limits 5 33) gives number 12)
-    ∷ (begin_answer (given (box 0 0 8193 1) (at 9 9) (at 4 1) still0 Nobody [] [] [] []) (limits 5 5) gives number 2)
-    ∷ (begin_answer (given W (at 0 3) (at 4 1) (reach 257) Nobody [] [] [] []) (limits 5 5) gives number 3)
-    ∷ (begin_answer (given W (at 0 1) (at 4 1) still0 (Bounded (reach 257)) [] [] [] []) (limits 5 5) gives number 4)
+    ∷ (begin_answer (given (box 0 0 0 0) (at 0 1) (at 4 1) still0 None [] [] [] []) (limits 5 33) gives number 12)
+    ∷ (begin_answer (given (box 0 0 8193 1) (at 9 9) (at 4 1) still0 None [] [] [] []) (limits 5 5) gives number 2)
+    ∷ (begin_answer (given W (at 0 3) (at 4 1) (reach 257) None [] [] [] []) (limits 5 5) gives number 3)
+    ∷ (begin_answer (given W (at 0 1) (at 4 1) still0 (Some (reach 257)) [] [] [] []) (limits 5 5) gives number 4)
     ∷ (begin_answer (both open0 (replicate 14 2)) (limits 5 5) gives number 6)
     ∷ (said (begin_call original_steps (both (replicate 15 2) open0) (limits 5 5) (work_for W) (store_for (alone []) (limits 5 5))).answer gives number 6)
     -- any count that isn't zero blocks, and none is turned away
@@ -126,7 +126,7 @@ beginning =
     ∷ (begin_answer (both open0 (replicate 15 1)) (limits 5 5) gives number 7)
     ∷ (begin_answer (both open0 (replicate 9 0 ++ replicate 6 1)) (limits 5 5) gives number 8)
     ∷ (begin_answer (both open0 (replicate 2 0 ++ 1 ∷ replicate 4 0 ++ 1 ∷ replicate 4 0 ++ 1 ∷ 0 ∷ 0 ∷ [])) (limits 5 5) gives number 9)
-    ∷ (begin_answer (given W (at 0 1) (at 4 1) still0 Nobody (2 ∷ []) (place 6 0 W W ∷ []) (replicate 9 0 ++ replicate 6 1) []) (limits 5 5) gives number 8)
+    ∷ (begin_answer (given W (at 0 1) (at 4 1) still0 None (2 ∷ []) (place 6 0 W W ∷ []) (replicate 9 0 ++ replicate 6 1) []) (limits 5 5) gives number 8)
     ∷ (begin_answer (alone (replicate 6145 (place 6 0 W W))) (limits 5 5) gives number 14)
     ∷ (begin_answer (alone (good ∷ place 6 0 W W ∷ place 0 1 W W ∷ [])) (limits 5 5) gives (15, 1 ∷ []))
     ∷ (begin_answer (alone (good ∷ good ∷ place 5 1 W W ∷ [])) (limits 5 5) gives (15, 2 ∷ []))
@@ -144,13 +144,13 @@ begin_refuses = refl
 
 -- P's window with an allowed mover and one placement
 unfoldable pub whole : Inputs
-whole = given W (at 0 1) (at 4 1) still0 (Bounded still0) (2 ∷ []) (good ∷ []) open0 open0
+whole = given W (at 0 1) (at 4 1) still0 (Some still0) (2 ∷ []) (good ∷ []) open0 open0
 
 -- 4 writes nothing; 7 and 15 leave the working areas zero and the others as they were; an accepted one leaves a record with the empty set pending and zeros up to
 -- every length
 pub begin_leaves : List (Row After)
 begin_leaves =
-    (begins (given W (at 0 1) (at 4 1) (reach 257) Nobody [] [] open0 []) (limits 5 5)
+    (begins (given W (at 0 1) (at 4 1) (reach 257) None [] [] open0 []) (limits 5 5)
     gives record { answer = refused_by 4 []; rec = no_record; work = work_for W; store = store_for (alone []) (limits 5 5) })
     ∷ (begins (both open0 (replicate 15 1)) (limits 5 5)
     gives record { answer = refused_by 7 []; rec = no_record; work = zeroed; store = store_for (both [] []) (limits 5 5) })
@@ -208,7 +208,7 @@ unfolding computing driving zeroed judged
 six_judged = refl
 
 pub corridor : Inputs
-corridor = given (box 0 0 3 1) (at 0 0) (at 2 0) still0 Nobody (1 ∷ []) (plain (box 1 0 2 1) ∷ []) (replicate 3 0) []
+corridor = given (box 0 0 3 1) (at 0 0) (at 2 0) still0 None (1 ∷ []) (plain (box 1 0 2 1) ∷ []) (replicate 3 0) []
 
 pub judge_leaves : judged corridor (0 ∷ [])
     ≡ record {

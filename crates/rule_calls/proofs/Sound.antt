@@ -9,8 +9,8 @@ use lib.Dec.{leb, ltb, eqb}
 use lib.ListN.{length, take, get_or, length-take}
 use borrow.Author.Tests.{leb-true, ltb-true, eqb-true, eq-eqb}
 use Rattle.base_laws.specs.Lists.{all_of, below, span, total, ascends}
-use Rattle.base_model.specs.declared.Allow.{Allow}
-use Rattle.base_model.specs.declared.Allow.TheVariants.{Nobody, Bounded}
+use Rattle.base_model.specs.Allow.{Allow}
+use Rattle.std.specs.Prelude.{None, Some}
 use Rattle.base_model.specs.declared.Limits.{Limits}
 use Rattle.base_model.specs.declared.Record.{Record}
 use Rattle.ground_rects.specs.Windows.{centres}
@@ -62,10 +62,10 @@ points_room_lem i l xs e h =
     let q = both (all_of (λ (n : ℕ). leb n (centres i.query.window)) xs) _ p.0 in
     go q.0 (leb-true (total xs) 1000000 p.1) i.query.allow q.1
   where
-    go : all_of (λ (n : ℕ). leb n (centres i.query.window)) xs ≡ true → total xs ≤ 1000000 → (x : Allow) → elim x [ Nobody ↦ all_of (λ (n : ℕ). eqb n 0) xs | Bounded m ↦ true ] ≡ true
-        → 2 * total xs ≤ elim x [ Nobody ↦ 0 | Bounded m ↦ 2 * min 1000000 (l.results * centres i.query.window) ]
-    go f a Nobody q = let z = total_zero xs q in omega arith
-    go f a (Bounded m) q =
+    go : all_of (λ (n : ℕ). leb n (centres i.query.window)) xs ≡ true → total xs ≤ 1000000 → (x : Allow) → elim x [ None ↦ all_of (λ (n : ℕ). eqb n 0) xs | Some m ↦ true ] ≡ true
+        → 2 * total xs ≤ elim x [ None ↦ 0 | Some m ↦ 2 * min 1000000 (l.results * centres i.query.window) ]
+    go f a None q = let z = total_zero xs q in omega arith
+    go f a (Some m) q =
         let b = total_le (centres i.query.window) xs f in
         let d : length xs * centres i.query.window ≤ l.results * centres i.query.window = mul-le-mul_right (centres i.query.window) h in
         let g : total xs ≤ min 1000000 (l.results * centres i.query.window) =

@@ -3,7 +3,7 @@ use Rattle.std.specs.Prelude.{ℕ, zero, suc, ◌+◌, ◌*◌, min, Bool, true,
 use Rattle.base_laws.specs.Lists.{below, total, flat, padded}
 use Rattle.base_model.specs.declared.Rect.{Rect}
 use Rattle.base_model.specs.declared.Position.{Position}
-use Rattle.base_model.specs.declared.Allow.TheVariants.{Nobody, Bounded}
+use Rattle.std.specs.Prelude.{None, Some}
 use Rattle.base_model.specs.declared.Limits.{Limits}
 use Rattle.base_model.specs.declared.Record.{Record}
 use Rattle.ground_rects.specs.Windows.{width, height, centres}
@@ -38,7 +38,7 @@ counts_length w = (width w + 1) * (height w + 1)
 
 -- x, y pairs for min(1,000,000, result limit × c) points; none without an allowed mover
 unfoldable pub points_length : Inputs → Limits → ℕ
-points_length i l = elim i.query.allow [ Nobody ↦ 0 | Bounded m ↦ 2 * min 1000000 (l.results * centres i.query.window) ]
+points_length i l = elim i.query.allow [ None ↦ 0 | Some m ↦ 2 * min 1000000 (l.results * centres i.query.window) ]
 
 unfoldable pub work_fits : Rect → Work → Bool
 work_fits w a =
@@ -55,7 +55,7 @@ store_fits i l a =
 unfoldable pub bases_fit : Inputs → Bool
 bases_fit i =
     leb (centres i.query.window) (length i.block_base)
-    && elim i.query.allow [ Nobody ↦ true | Bounded m ↦ leb (centres i.query.window) (length i.allow_base) ]
+    && elim i.query.allow [ None ↦ true | Some m ↦ leb (centres i.query.window) (length i.allow_base) ]
 
 -- ---- what stands in an area after a call
 -- the used entries, zeros up to n entries, and past them what stood there

@@ -7,7 +7,7 @@ use Rattle.base_model.specs.Answers.{Said, refusal, ask, first, said_of}
 use Rattle.base_model.specs.declared.Rect.{Rect}
 use Rattle.base_model.specs.declared.Bounds.{Bounds}
 use Rattle.base_model.specs.declared.Position.{Position}
-use Rattle.base_model.specs.declared.Allow.TheVariants.{Nobody}
+use Rattle.std.specs.Prelude.{None}
 use Rattle.base_model.specs.declared.Limits.{Limits}
 use Rattle.base_model.specs.declared.Record.{Record}
 use Rattle.base_model.specs.declared.Verdict.{Verdict}
@@ -44,7 +44,7 @@ pub record Prepared : Type 0 where
 -- the ground with no placements, for one mover over its baseline
 unfoldable pub bare : Preparation → List ℕ → Inputs
 bare q base = record {
-  query = record { window = q.window; start = q.start; end = q.end; block = q.mover; allow = Nobody };
+  query = record { window = q.window; start = q.start; end = q.end; block = q.mover; allow = None };
   groups = [];
   places = [];
   block_base = base;

@@ -5,7 +5,7 @@ use Rattle.base_laws.specs.Lists.{all_of, total, is_some}
 use Rattle.base_model.specs.Answers.{Said, ask}
 use Rattle.base_model.specs.declared.Rect.{Rect}
 use Rattle.base_model.specs.declared.Placement.{Placement}
-use Rattle.base_model.specs.declared.Allow.TheVariants.{Nobody, Bounded}
+use Rattle.std.specs.Prelude.{None, Some}
 use Rattle.base_model.specs.declared.Limits.{Limits}
 use Rattle.ground_rects.specs.Rects.{nonempty, holds, small}
 use Rattle.ground_rects.specs.Windows.{window_fits, in_window}
@@ -19,7 +19,7 @@ group_checks i = ask 10 (leb (length i.groups) 6 && all_of (λ (k : ℕ). leb 1 
 
 -- passes 4: no bound of either mover is above 256
 unfoldable pub movers_small : Inputs → Bool
-movers_small i = small i.query.block && elim i.query.allow [ Nobody ↦ true | Bounded m ↦ small m ]
+movers_small i = small i.query.block && elim i.query.allow [ None ↦ true | Some m ↦ small m ]
 
 -- 7: start blocked; 8: end blocked; 9: no route exists
 unfoldable pub route_checks : Board → Mover → List (Option Said)

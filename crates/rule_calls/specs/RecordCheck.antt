@@ -1,7 +1,7 @@
 -- 16: what step and reading ask of the record and the areas, on stopped searches too (RULES 8.4).
 use Rattle.std.specs.Prelude.{ℕ, suc, ◌*◌, Bool, true, not, ◌&&◌, ◌||◌, List, leb, ltb, eqb, length, get_or, take}
 use Rattle.base_laws.specs.Lists.{all_of, below, total, ascends}
-use Rattle.base_model.specs.declared.Allow.TheVariants.{Nobody, Bounded}
+use Rattle.std.specs.Prelude.{None, Some}
 use Rattle.base_model.specs.declared.Limits.{Limits}
 use Rattle.base_model.specs.declared.Record.{Record}
 use Rattle.ground_rects.specs.Windows.{centres}
@@ -22,7 +22,7 @@ row_fits places area k = leb (get_or area (7 * k) 0) 6 && ascends (row_of area k
 unfoldable pub routes_fit : Inputs → List ℕ → Bool
 routes_fit i lengths =
     all_of (λ (n : ℕ). leb n (centres i.query.window)) lengths
-    && elim i.query.allow [ Nobody ↦ all_of (λ (n : ℕ). eqb n 0) lengths | Bounded m ↦ true ]
+    && elim i.query.allow [ None ↦ all_of (λ (n : ℕ). eqb n 0) lengths | Some m ↦ true ]
     && leb (total lengths) 1000000
 
 module _ (i : Inputs) (r : Record) (a : Store) where

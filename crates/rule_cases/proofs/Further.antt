@@ -6,8 +6,8 @@ use mathlib.Core.Option.{none}
 use mathlib.Core.List.{List, [], ◌∷◌, ◌++◌}
 use lib.IntN.{pos, negsuc}
 use lib.ListN.{replicate}
-use Rattle.base_model.specs.declared.Allow.{Allow}
-use Rattle.base_model.specs.declared.Allow.TheVariants.{Nobody, Bounded}
+use Rattle.base_model.specs.Allow.{Allow}
+use Rattle.std.specs.Prelude.{None, Some}
 use Rattle.base_model.specs.declared.Verdict.TheVariants.{Slots, Overlap, EndCovered, Spare, Shut}
 use Rattle.rule_search.specs.State.{Running, Exhausted, StateLimit, ResultLimit}
 use Rattle.rule_calls.specs.Calls.{After, judges}
@@ -47,11 +47,11 @@ half_and_whole allow groups = P allow 100 32 groups (plain (box 1 0 2 2) ∷ pla
 
 -- the start stands under the first place, which the second overlaps
 pub start_under : Case
-start_under = on_open_cell (box 0 0 5 3) (at 3 1) (at 4 1) still0 Nobody (limits 9 9) (2 ∷ []) (plain (box 3 0 4 3) ∷ plain (box 2 0 4 3) ∷ [])
+start_under = on_open_cell (box 0 0 5 3) (at 3 1) (at 4 1) still0 None (limits 9 9) (2 ∷ []) (plain (box 3 0 4 3) ∷ plain (box 2 0 4 3) ∷ [])
 
 -- the blocked mover reaches one row up, the allowed one does not: place 1 alone is a wall, and the route past it is kept
 pub kept_route : Case
-kept_route = on_open_cell (box 0 0 5 3) (at 0 1) (at 4 1) (bounds 0 1 0 0) (Bounded still0) (limits 5 2) (2 ∷ []) places_p
+kept_route = on_open_cell (box 0 0 5 3) (at 0 1) (at 4 1) (bounds 0 1 0 0) (Some still0) (limits 5 2) (2 ∷ []) places_p
 
 -- the same in a window that begins at (2, 1), on a map of two cells: points are map pixels
 pub kept_route_offset : Case
@@ -62,7 +62,7 @@ kept_route_offset = record {
   start = at 2 2;
   end = at 6 2;
   block = bounds 0 1 0 0;
-  allow = Bounded still0;
+  allow = Some still0;
   limits = limits 5 2;
   groups = 1 ∷ [];
   places = plain (box 4 1 5 3) ∷ [];
@@ -77,7 +77,7 @@ ramp = record {
   start = at 5 7;
   end = at 10 7;
   block = still0;
-  allow = Nobody;
+  allow = None;
   limits = limits 50 5;
   groups = 1 ∷ 1 ∷ [];
   places = place 0 0 (box 6 5 8 8) (box 6 7 8 8) ∷ place 1 1 (box 8 5 9 9) (box 8 0 9 99) ∷ [];
@@ -85,18 +85,18 @@ ramp = record {
 
 pub table : List (Row Shown)
 table =
-    (drive (half_and_whole Nobody (2 ∷ [])) (100 ∷ []) gives result Exhausted 4 2 (layout (1 ∷ []) [] ∷ []))
-    ∷ (judging (half_and_whole Nobody (2 ∷ [])) (0 ∷ 1 ∷ []) gives judged (judges Spare 7))
-    ∷ (judging (half_and_whole Nobody (1 ∷ [])) (0 ∷ 1 ∷ []) gives judged (judges Slots 7))
+    (drive (half_and_whole None (2 ∷ [])) (100 ∷ []) gives result Exhausted 4 2 (layout (1 ∷ []) [] ∷ []))
+    ∷ (judging (half_and_whole None (2 ∷ [])) (0 ∷ 1 ∷ []) gives judged (judges Spare 7))
+    ∷ (judging (half_and_whole None (1 ∷ [])) (0 ∷ 1 ∷ []) gives judged (judges Slots 7))
     ∷ (judging start_under (0 ∷ []) gives judged (judges EndCovered 0))
-    ∷ (judging (P (Bounded still0) 9 9 (2 ∷ []) places_p) (0 ∷ []) gives judged (judges Shut 6))
+    ∷ (judging (P (Some still0) 9 9 (2 ∷ []) places_p) (0 ∷ []) gives judged (judges Shut 6))
     -- two verdicts hold: Slots before Overlap, Overlap before EndCovered, Spare before Shut
-    ∷ (judging (P Nobody 9 9 (1 ∷ []) places_p) (0 ∷ 1 ∷ []) gives judged (judges Slots 6))
+    ∷ (judging (P None 9 9 (1 ∷ []) places_p) (0 ∷ 1 ∷ []) gives judged (judges Slots 6))
     ∷ (judging start_under (0 ∷ 1 ∷ []) gives judged (judges Overlap 0))
-    ∷ (judging (half_and_whole (Bounded still0) (2 ∷ [])) (0 ∷ 1 ∷ []) gives judged (judges Spare 7))
-    ∷ (drive (P Nobody 1 32 [] []) (1 ∷ []) gives result Exhausted 1 0 [])
-    ∷ (drive (P Nobody 1 32 (2 ∷ []) places_p) (1 ∷ []) gives result StateLimit 1 3 [])
-    ∷ (drive (P Nobody 2 1 (2 ∷ []) places_p) (2 ∷ []) gives result ResultLimit 2 3 (layout (0 ∷ []) [] ∷ []))
+    ∷ (judging (half_and_whole (Some still0) (2 ∷ [])) (0 ∷ 1 ∷ []) gives judged (judges Spare 7))
+    ∷ (drive (P None 1 32 [] []) (1 ∷ []) gives result Exhausted 1 0 [])
+    ∷ (drive (P None 1 32 (2 ∷ []) places_p) (1 ∷ []) gives result StateLimit 1 3 [])
+    ∷ (drive (P None 2 1 (2 ∷ []) places_p) (2 ∷ []) gives result ResultLimit 2 3 (layout (0 ∷ []) [] ∷ []))
     ∷ (drive P0 (0 ∷ []) gives result Running 0 3 [])
     ∷ (drive P0 (2 ∷ 0 ∷ 1 ∷ []) gives result Running 3 3 (layout (0 ∷ []) [] ∷ []))
     ∷ (drive kept_route (5 ∷ []) gives result Exhausted 3 3 (layout (1 ∷ []) (0 ∷ 1 ∷ 1 ∷ 2 ∷ 2 ∷ 2 ∷ 3 ∷ 2 ∷ 4 ∷ 1 ∷ []) ∷ []))
@@ -110,7 +110,7 @@ further = refl
 
 -- all that P leaves with limits 5 and 2 after step 2: record and areas, unused entries zero, the entry past each length kept
 pub R : Case
-R = P Nobody 5 2 (2 ∷ []) places_p
+R = P None 5 2 (2 ∷ []) places_p
 
 pub after_two : After
 after_two = record {

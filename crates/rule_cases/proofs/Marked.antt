@@ -3,7 +3,7 @@ use mathlib.Core.Path.{◌≡◌, refl}
 use mathlib.Core.List.{List, [], ◌∷◌}
 use lib.ListN.{replicate}
 use Rattle.base_model.specs.declared.Rect.{Rect}
-use Rattle.base_model.specs.declared.Allow.TheVariants.{Nobody, Bounded}
+use Rattle.std.specs.Prelude.{None, Some}
 use Rattle.base_model.specs.declared.Verdict.TheVariants.{Open, Wall, Overlap}
 use Rattle.rule_routes.specs.Edges.{original_steps}
 use Rattle.rule_search.specs.State.{Running, Exhausted, StateLimit, ResultLimit}
@@ -50,7 +50,7 @@ first_alone = layout (0 ∷ []) [] ∷ []
 
 -- the window 2 by 2, the ends on opposite corners, a place on each of the other two
 Q : Case
-Q = on_open_cell (box 0 0 2 2) (at 0 0) (at 1 1) still0 Nobody (limits 100 32) (2 ∷ []) (plain (box 1 0 2 1) ∷ plain (box 0 1 1 2) ∷ [])
+Q = on_open_cell (box 0 0 2 2) (at 0 0) (at 1 1) still0 None (limits 100 32) (2 ∷ []) (plain (box 1 0 2 1) ∷ plain (box 0 1 1 2) ∷ [])
 
 -- prepare on a map of 128 by 129 cells, all walkable, with areas that are too short: 6 where checks 1 to 5 pass
 preparing : Rect → Shown
@@ -60,7 +60,7 @@ preparing w = answered (prepare_call original_steps
 
 -- begin with areas that are too short: 6 where the checks before it pass
 beginning : Rect → Shown
-beginning w = answered (begin_call original_steps (given w (at 0 0) (at 1 1) still0 Nobody [] [] [] []) (limits 1 1) (work_for (box 0 0 1 1))
+beginning w = answered (begin_call original_steps (given w (at 0 0) (at 1 1) still0 None [] [] [] []) (limits 1 1) (work_for (box 0 0 1 1))
     (record { lists = []; visited = []; layouts = []; points = [] })).answer
 
 pub table : List (Row Shown)
@@ -68,14 +68,14 @@ table =
     (drive P0 (100 ∷ []) gives result Exhausted 4 3 both)
     ∷ (drive P0 (4 ∷ []) gives result Running 4 3 both)
     ∷ (drive P0 (4 ∷ 1 ∷ []) gives result Exhausted 4 3 both)
-    ∷ (drive (P Nobody 4 32 (2 ∷ []) places_p) (4 ∷ []) gives result StateLimit 4 3 both)
-    ∷ (drive (P Nobody 3 32 (2 ∷ []) places_p) (3 ∷ []) gives result StateLimit 3 3 first_alone)
-    ∷ (drive (P Nobody 100 1 (2 ∷ []) places_p) (100 ∷ []) gives result ResultLimit 2 3 first_alone)
-    ∷ (drive (P Nobody 100 2 (2 ∷ []) places_p) (100 ∷ []) gives result ResultLimit 4 3 both)
-    ∷ (drive (P Nobody 100 32 (1 ∷ []) places_p) (100 ∷ []) gives result Exhausted 3 3 first_alone)
-    ∷ (drive (P (Bounded still0) 100 32 (2 ∷ []) places_p) (100 ∷ []) gives result Exhausted 4 3 [])
-    ∷ (drive (P Nobody 100 32 [] []) (100 ∷ []) gives result Exhausted 1 0 [])
-    ∷ (drive (on_open_cell (box 0 0 5 3) (at 0 1) (at 0 1) still0 Nobody (limits 100 32) (2 ∷ []) places_p) (100 ∷ []) gives result Exhausted 1 3 [])
+    ∷ (drive (P None 4 32 (2 ∷ []) places_p) (4 ∷ []) gives result StateLimit 4 3 both)
+    ∷ (drive (P None 3 32 (2 ∷ []) places_p) (3 ∷ []) gives result StateLimit 3 3 first_alone)
+    ∷ (drive (P None 100 1 (2 ∷ []) places_p) (100 ∷ []) gives result ResultLimit 2 3 first_alone)
+    ∷ (drive (P None 100 2 (2 ∷ []) places_p) (100 ∷ []) gives result ResultLimit 4 3 both)
+    ∷ (drive (P None 100 32 (1 ∷ []) places_p) (100 ∷ []) gives result Exhausted 3 3 first_alone)
+    ∷ (drive (P (Some still0) 100 32 (2 ∷ []) places_p) (100 ∷ []) gives result Exhausted 4 3 [])
+    ∷ (drive (P None 100 32 [] []) (100 ∷ []) gives result Exhausted 1 0 [])
+    ∷ (drive (on_open_cell (box 0 0 5 3) (at 0 1) (at 0 1) still0 None (limits 100 32) (2 ∷ []) places_p) (100 ∷ []) gives result Exhausted 1 3 [])
     ∷ (judging P0 [] gives judged (judges Open 15))
     ∷ (judging P0 (0 ∷ []) gives judged (judges Wall 6))
     ∷ (judging P0 (0 ∷ 1 ∷ []) gives judged (judges Overlap 6))

@@ -7,7 +7,7 @@ use lib.IntN.{ℤ}
 use lib.ListN.{replicate}
 use Rattle.base_laws.specs.Lists.{below}
 use Rattle.base_model.specs.Answers.{Said}
-use Rattle.base_model.specs.declared.Allow.TheVariants.{Nobody, Bounded}
+use Rattle.std.specs.Prelude.{None, Some}
 use Rattle.rule_routes.specs.Edges.{original_steps}
 use Rattle.rule_routes.proofs.Cases.{diagonals_first}
 use Rattle.rule_layouts.specs.Inputs.{Inputs}
@@ -31,7 +31,7 @@ lists table i =
 
 -- two columns, each in an upper and a lower half: any upper half with any lower one is a wall
 halves : Inputs
-halves = given (box 0 0 4 4) (at 0 1) (at 3 1) still0 Nobody (2 ∷ [])
+halves = given (box 0 0 4 4) (at 0 1) (at 3 1) still0 None (2 ∷ [])
     (plain (box 1 2 2 4) ∷ plain (box 2 0 3 2) ∷ plain (box 2 2 3 4) ∷ plain (box 1 0 2 2) ∷ []) (replicate 16 0) []
 
 -- the first route goes straight on, past the upper halves 1 and 3; by the diagonals first it goes a row down and up again, past all four
@@ -42,7 +42,7 @@ same_walls = (refl, refl)
 
 -- a post that leaves the lowest row open: the blocked mover reaches a row up and down, the allowed one passes
 post : Inputs
-post = given (box 0 1 4 5) (at 0 2) (at 3 2) (bounds 0 1 0 1) (Bounded still0) (1 ∷ []) (plain (box 2 1 3 4) ∷ []) (replicate 16 0) (replicate 16 0)
+post = given (box 0 1 4 5) (at 0 2) (at 3 2) (bounds 0 1 0 1) (Some still0) (1 ∷ []) (plain (box 2 1 3 4) ∷ []) (replicate 16 0) (replicate 16 0)
 
 -- the points of the one layout's route
 route_points : List ℤ → List ℕ

@@ -4,8 +4,8 @@ use Rattle.std.proofs.Math.Option.{Option, none, some}
 use Rattle.base_model.specs.declared.Rect.{Rect}
 use Rattle.base_model.specs.declared.Bounds.{Bounds}
 use Rattle.base_model.specs.declared.Placement.{Placement}
-use Rattle.base_model.specs.declared.Allow.{Allow}
-use Rattle.base_model.specs.declared.Allow.TheVariants.{Nobody, Bounded}
+use Rattle.base_model.specs.Allow.{Allow}
+use Rattle.std.specs.Prelude.{None, Some}
 use Rattle.base_model.specs.declared.Query.{Query}
 use Rattle.ground_rects.specs.Rects.{rect, intersects, keeps_off}
 use Rattle.ground_rects.specs.Windows.{width, height, centres, centre_at, pixel_x, pixel_y}
@@ -50,8 +50,8 @@ mover_of w ps m base = record {
 }
 
 unfoldable pub allowed_of : Rect → List Placement → Allow → List ℕ → Option Mover
-allowed_of w ps Nobody base = none
-allowed_of w ps (Bounded m) base = some (mover_of w ps m base)
+allowed_of w ps None base = none
+allowed_of w ps (Some m) base = some (mover_of w ps m base)
 
 unfoldable pub board_of : List Step → Inputs → Board
 board_of steps i =

@@ -12,8 +12,8 @@ use Rattle.base_laws.specs.Fill.{zeros, over}
 use Rattle.base_laws.proofs.Stores.{drop_replicate, length_padded, over_part, part_same}
 use Rattle.base_model.specs.declared.Position.{Position}
 use Rattle.base_model.specs.declared.Record.{Record}
-use Rattle.base_model.specs.declared.Allow.{Allow}
-use Rattle.base_model.specs.declared.Allow.TheVariants.{Nobody, Bounded}
+use Rattle.base_model.specs.Allow.{Allow}
+use Rattle.std.specs.Prelude.{None, Some}
 use Rattle.ground_rects.specs.Windows.{centres, position_of}
 use Rattle.rule_layouts.specs.Inputs.{places_of, allowed_of, board_of}
 use Rattle.rule_layouts.specs.Explore.{Outcome, Nothing, Extend, Wall, map_points, explore}
@@ -86,8 +86,8 @@ module _ (t : Terms) where
   unfolding points_length board_of plan_of inputs_of allowed_of
   points_fit w h = go t.query.allow refl
     where
-      go : (x : Allow) → t.query.allow ≡ x → 2 * points_kept w.layouts ≤ (elim x [ Nobody ↦ 0 | Bounded m ↦ 2 * min 1000000 (t.limits.results * centres t.query.window) ])
-      go Nobody e =
+      go : (x : Allow) → t.query.allow ≡ x → 2 * points_kept w.layouts ≤ (elim x [ None ↦ 0 | Some m ↦ 2 * min 1000000 (t.limits.results * centres t.query.window) ])
+      go None e =
           omega (
             arith,
             points_kept_bound 0 w.layouts
@@ -95,7 +95,7 @@ module _ (t : Terms) where
                 let u = (h.formed.listed y m).unless (ap (λ (x : Allow). allowed_of t.query.window (inputs_under t).places x t.allow_base) e) in
                 let z : length y.route ≡ 0 = ap (λ (q : List Position). length q) u in omega arith),
           )
-      go (Bounded m) e =
+      go (Some m) e =
           omega (
             arith,
             points_kept_bound (centres t.query.window) w.layouts (λ y m. (h.formed.listed y m).short),

@@ -5,8 +5,8 @@ use mathlib.Core.List.{List, [], ◌∷◌, map, Memᴰ}
 use Rattle.base_laws.specs.Lists.{below}
 use Rattle.base_model.specs.declared.Rect.{Rect}
 use Rattle.base_model.specs.declared.Bounds.{Bounds}
-use Rattle.base_model.specs.declared.Allow.{Allow}
-use Rattle.base_model.specs.declared.Allow.TheVariants.{Nobody, Bounded}
+use Rattle.base_model.specs.Allow.{Allow}
+use Rattle.std.specs.Prelude.{None, Some}
 use Rattle.ground_rects.specs.Rects.{nonempty, small, keeps_off}
 use Rattle.ground_rects.specs.Windows.{centres, pixel_x, pixel_y}
 use Rattle.rule_layouts.specs.Boards.{Mover, leaves_open}
@@ -29,8 +29,8 @@ mover_in w edges m base = record {
 
 -- the allowed mover, if there is one, that the row keeps off
 unfoldable pub allow_in : Rect → List ℤ → Allow → List ℕ → Option Mover
-allow_in w edges Nobody base = none
-allow_in w edges (Bounded m) base = some (mover_in w edges m base)
+allow_in w edges None base = none
+allow_in w edges (Some m) base = some (mover_in w edges m base)
 
 -- the set without its member number k; the whole set where it has no such member
 unfoldable pub without_at : ℕ → List ℕ → List ℕ
@@ -46,8 +46,8 @@ pub record Ground (w : Rect) (m : Bounds) (cells : List ℕ) : Type 0 where
 
 -- the allowed mover, if there is one, is small, and its baseline has a byte for each centre
 unfoldable pub AllowReady : Rect → Allow → List ℕ → Type 0
-AllowReady w Nobody base = Unit {0}
-AllowReady w (Bounded m) base = (small m ≡ true) × (centres w ≤ length base)
+AllowReady w None base = Unit {0}
+AllowReady w (Some m) base = (small m ≡ true) × (centres w ≤ length base)
 
 -- every member's edges stand in the row
 pub record Named (edges : List ℤ) (s : List ℕ) : Type 0 where

@@ -7,8 +7,8 @@ use lib.IntN.{ℤ}
 use lib.ListN.{length}
 use Rattle.base_model.specs.declared.Rect.{Rect}
 use Rattle.base_model.specs.declared.Bounds.{Bounds}
-use Rattle.base_model.specs.declared.Allow.{Allow}
-use Rattle.base_model.specs.declared.Allow.TheVariants.{Nobody, Bounded}
+use Rattle.base_model.specs.Allow.{Allow}
+use Rattle.std.specs.Prelude.{None, Some}
 use Rattle.base_model.specs.declared.Query.{Query}
 use Rattle.ground_rects.specs.Rects.{keeps_off}
 use Rattle.ground_rects.specs.Windows.{width, height, centres, pixel_x, pixel_y, centre_at}
@@ -29,8 +29,8 @@ module _ (n : ℕ) (numbers : List ℕ) (edges : List ℤ) (fours : length numbe
 
   flat_allow : (w : Rect) (allow : Allow) (base : List ℕ) → allowed_of w (placements_of numbers edges) allow base ≡ allow_in w edges allow base
   unfolding allowed_of allow_in
-  flat_allow w Nobody base = refl
-  flat_allow w (Bounded m) base = ap some (flat_mover w m base)
+  flat_allow w None base = refl
+  flat_allow w (Some m) base = ap some (flat_mover w m base)
 
   -- the board of the inputs is the board of the rows
   pub flat_board_lem : (q : Query) (start end : ℕ) (groups block_base allow_base : List ℕ) (steps : List Step) → start ≡ centre_at q.window q.start → end ≡ centre_at q.window q.end

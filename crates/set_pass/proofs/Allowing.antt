@@ -7,8 +7,8 @@ use lib.IntN.{ℤ}
 use lib.ListN.{length}
 use Rattle.base_model.specs.declared.Rect.{Rect}
 use Rattle.base_model.specs.declared.Bounds.{Bounds}
-use Rattle.base_model.specs.declared.Allow.{Allow}
-use Rattle.base_model.specs.declared.Allow.TheVariants.{Nobody, Bounded}
+use Rattle.base_model.specs.Allow.{Allow}
+use Rattle.std.specs.Prelude.{None, Some}
 use Rattle.ground_rects.specs.Windows.{centres}
 use Rattle.rule_routes.specs.Edges.{Step}
 use Rattle.rule_layouts.specs.Boards.{Mover}
@@ -38,23 +38,23 @@ allowed_free o route route' r n t =
 
 -- ---- by whether there is one
 module _ (w : Rect) (steps : List Step) (start end : ℕ) (edges : List ℤ) (allow : Allow) (base s : List ℕ) where
-  pub allow_nobody : allow ≡ Nobody → (route : List ℕ) → Allowed (allowed_past w steps start end (allow_in w edges allow base) s) (passage.TheVariants.Free 0) route route
+  pub allow_nobody : allow ≡ None → (route : List ℕ) → Allowed (allowed_past w steps start end (allow_in w edges allow base) s) (passage.TheVariants.Free 0) route route
   unfolding allow_in allowed_past
   allow_nobody e route = rw e (allowed_none route)
 
-  pub allow_moving : (m : Bounds) → allow ≡ Bounded m → AllowReady w allow base → Named edges s → Moving w m base edges s
+  pub allow_moving : (m : Bounds) → allow ≡ Some m → AllowReady w allow base → Named edges s → Moving w m base edges s
   unfolding AllowReady
   allow_moving m e r n = let k = rw e at r in record { slim = k.0; bytes = k.1; named = n }
 
-  pub allow_past : (m : Bounds) → allow ≡ Bounded m → passed w steps start end (mover_in w edges m base) (without_at (length s) s) ≡ allowed_past w steps start end (allow_in w edges allow base) s
+  pub allow_past : (m : Bounds) → allow ≡ Some m → passed w steps start end (mover_in w edges m base) (without_at (length s) s) ≡ allowed_past w steps start end (allow_in w edges allow base) s
   unfolding allow_in allowed_past
   allow_past m e = rw e (ap (passed w steps start end (mover_in w edges m base)) (whole s))
 
-  pub map_nobody : allow ≡ Nobody → (cells : List ℕ) → cells ≡ map_after_allowed w (allow_in w edges allow base) s cells
+  pub map_nobody : allow ≡ None → (cells : List ℕ) → cells ≡ map_after_allowed w (allow_in w edges allow base) s cells
   unfolding allow_in map_after_allowed
   map_nobody e cells = rw e
 
-  pub map_past : (m : Bounds) → allow ≡ Bounded m → (cells cells' : List ℕ) → cells' ≡ blocked_map (mover_in w edges m base) (centres w) (without_at (length s) s)
+  pub map_past : (m : Bounds) → allow ≡ Some m → (cells cells' : List ℕ) → cells' ≡ blocked_map (mover_in w edges m base) (centres w) (without_at (length s) s)
       → cells' ≡ map_after_allowed w (allow_in w edges allow base) s cells
   unfolding allow_in map_after_allowed
   map_past m e cells cells' l = rw e (l ∙ ap (blocked_map (mover_in w edges m base) (centres w)) (whole s))

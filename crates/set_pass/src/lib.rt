@@ -11,7 +11,7 @@ ghost use Rattle.set_pass.specs.Pass.{RouteLent, Moving, AreasKept, passed, mini
 ghost use Rattle.set_pass.specs.Maps.{map_after_lifting, map_after_allowed};
 ghost use Rattle.set_pass.specs.Allowed.{Allowed};
 
-use base_model::{Allow, Bounds, Rect};
+use base_model::{Bounds, Rect};
 
 // Whether the allowed mover passes, and the number of points of its route.
 #[derive(Clone, Copy)]
@@ -161,7 +161,7 @@ pub fn is_minimal_block(
 // The allowed mover's route past the set, laid into the route, and the set over its baseline; no points and nothing laid where there is no
 // allowed mover.
 pub fn allowed_route(
-    allow: Allow,
+    allow: Option<Bounds>,
     base: &[u8],
     window: Rect,
     start: usize,
@@ -186,7 +186,7 @@ pub fn allowed_route(
     ensures map_after { map.new ≡ map_after_allowed window (allow_in window edges.now allow base.now)
         set.now map.old }
 {
-    let Allow::Bounded(mover) = allow else {
+    let Some(mover) = allow else {
         return Passage::Free(0);
     };
     let n = set.len();

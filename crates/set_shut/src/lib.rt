@@ -9,7 +9,7 @@ ghost use Rattle.set_blocked.specs.Blocked.{blocked_map, mover_in, allow_in, All
 ghost use Rattle.set_pass.specs.Pass.{RouteLent, Moving, Shutting, AreasKept, passed, allowed_past};
 ghost use Rattle.set_shut.specs.Shut.{past_shut};
 
-use base_model::{Allow, Bounds, Query, Rect, Verdict};
+use base_model::{Bounds, Query, Rect, Verdict};
 use set_pass::Passage;
 
 // Lays the set over the mover's baseline, and says whether it leaves the mover a route.
@@ -56,7 +56,7 @@ pub fn is_open(
 
 // Whether the allowed mover, if there is one, has a route past the set.
 fn lets_allowed(
-    allow: Allow,
+    allow: Option<Bounds>,
     base: &[u8],
     window: Rect,
     start: usize,

@@ -13,8 +13,8 @@ use Rattle.base_model.specs.declared.Refusal.{Refusal}
 use Rattle.base_model.specs.declared.Answer.{Answer}
 use Rattle.base_model.specs.declared.Answer.TheVariants.{Done, Refused}
 use Rattle.base_model.specs.declared.Bounds.{Bounds}
-use Rattle.base_model.specs.declared.Allow.{Allow}
-use Rattle.base_model.specs.declared.Allow.TheVariants.{Nobody, Bounded}
+use Rattle.base_model.specs.Allow.{Allow}
+use Rattle.std.specs.Prelude.{None, Some}
 use Rattle.base_model.specs.declared.Limits.{Limits}
 use Rattle.base_model.specs.declared.Query.{Query}
 use Rattle.rule_layouts.specs.Flat.{inputs_of}
@@ -49,18 +49,18 @@ module _ (table : List ℤ) (s : Sheet) (across down : ℕ) (cells : List ℕ) (
     block_passed r = rw (drive_text, block_same, r) (ap (λ (x : Prepared). allow_text table s s.allow x.baseline x.work) block_same)
 
   -- whether there is an allowed mover
-  pub nobody_searched : query.allow ≡ Nobody → (block_base : List ℕ) (work : Work) → allow_text table s s.allow block_base work ≡ search_text table s block_base no_bytes work
+  pub nobody_searched : query.allow ≡ None → (block_base : List ℕ) (work : Work) → allow_text table s s.allow block_base work ≡ search_text table s block_base no_bytes work
   unfolding query_of allowed_by allow_text
   nobody_searched e block_base work = go s.allow (sym (ap (λ (q : Query). q.allow) h.query_is) ∙ e)
     where
-      go : (l : List (List ℕ)) → allowed_by l ≡ Nobody → allow_text table s l block_base work ≡ search_text table s block_base no_bytes work
+      go : (l : List (List ℕ)) → allowed_by l ≡ None → allow_text table s l block_base work ≡ search_text table s block_base no_bytes work
       go [] q = refl
       go (m ∷ ms) q = absurd (let z : ◌≡◌ {A = ℕ} 0 1 = cc in let w : ⊥ = omega arith in w)
 
 -- ---- the same in front of the area
 unfoldable bounds_in : Allow → Bounds
-bounds_in Nobody = bounds_of []
-bounds_in (Bounded b) = b
+bounds_in None = bounds_of []
+bounds_in (Some b) = b
 
 module _ (table : List ℤ) (s : Sheet) (across down : ℕ) (cells : List ℕ) (obstacles : List ℤ) (query : Query) (limits : Limits) (groups numbers : List ℕ) (edges : List ℤ)
     (h : Flat s across down cells obstacles query limits groups numbers edges) (o : Answer) (base : List ℕ) (work' : Work) (before out : List ℕ) (n : ℕ) where
@@ -77,7 +77,7 @@ module _ (table : List ℤ) (s : Sheet) (across down : ℕ) (cells : List ℕ) (
     unfolding reply_of
     passed q = block_passed table s across down cells obstacles query limits groups numbers edges h gave ep (ap reply_of q)
 
-    pub drive_nobody : o ≡ Done → query.allow ≡ Nobody
+    pub drive_nobody : o ≡ Done → query.allow ≡ None
         → Front (step_text table (inputs_of query groups numbers edges base no_bytes) limits
         (begin_call table (inputs_of query groups numbers edges base no_bytes) limits work' no_store)) before out n
         → Front (drive_text table s) before out n
@@ -86,11 +86,11 @@ module _ (table : List ℤ) (s : Sheet) (across down : ℕ) (cells : List ℕ) (
         (passed q ∙ nobody_searched table s across down cells obstacles query limits groups numbers edges h w base work'
         ∙ searched s across down cells obstacles query limits groups numbers edges h table base no_bytes work') k
 
-    pub drive_allowed : o ≡ Done → (b : Bounds) → query.allow ≡ Bounded b
+    pub drive_allowed : o ≡ Done → (b : Bounds) → query.allow ≡ Some b
         → ((m : List ℕ) (ms : List (List ℕ)) → b ≡ bounds_of m → Front (allow_text table s (m ∷ ms) base work') before out n) → Front (drive_text table s) before out n
     unfolding query_of allowed_by bounds_in
     drive_allowed q b w k = fronts _ _ before out n (passed q) (go s.allow (sym (ap (λ (q : Query). q.allow) h.query_is) ∙ w))
       where
-        go : (l : List (List ℕ)) → allowed_by l ≡ Bounded b → Front (allow_text table s l base work') before out n
+        go : (l : List (List ℕ)) → allowed_by l ≡ Some b → Front (allow_text table s l base work') before out n
         go [] z = absurd (let y : ◌≡◌ {A = ℕ} 0 1 = cc in let no : ⊥ = omega arith in no)
         go (m ∷ ms) z = k m ms (sym (ap bounds_in z))

@@ -7,7 +7,7 @@ ghost use Rattle.sheet_form.specs.Sheets.{Sheet};
 ghost use Rattle.sheet_rule.specs.Drive.{drive_text};
 ghost use Rattle.sheet_allowed.specs.Inner.{Flat};
 
-use base_model::{Allow, Answer, Limits, Query};
+use base_model::{Answer, Limits, Query};
 use sheet_form::{MOST_CENTRES, MOST_COUNTS};
 
 // Prepares block, then the allowed mover if there is one, and searches.
@@ -61,7 +61,7 @@ pub fn drive(
         return sheet_write::write_refusal(out, r);
     }
     let allow = query.allow;
-    if let Allow::Bounded(mover) = allow {
+    if let Some(mover) = allow {
         return sheet_allowed::allowed(
             across,
             down,

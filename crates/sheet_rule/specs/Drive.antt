@@ -5,8 +5,8 @@ use Rattle.base_laws.specs.Lists.{flat}
 use Rattle.base_model.specs.Answers.{refusal}
 use Rattle.base_model.specs.declared.Bounds.{Bounds}
 use Rattle.base_model.specs.declared.Position.{Position}
-use Rattle.base_model.specs.declared.Allow.{Allow}
-use Rattle.base_model.specs.declared.Allow.TheVariants.{Nobody, Bounded}
+use Rattle.base_model.specs.Allow.{Allow}
+use Rattle.std.specs.Prelude.{None, Some}
 use Rattle.base_model.specs.declared.Limits.{Limits}
 use Rattle.base_model.specs.declared.Query.{Query}
 use Rattle.rule_routes.specs.Edges.{original_steps}
@@ -28,8 +28,8 @@ unfoldable pub end_of : Sheet → Position
 end_of s = record { x = get_or s.ends 2 0; y = get_or s.ends 3 0 }
 
 unfoldable pub allowed_by : List (List ℕ) → Allow
-allowed_by [] = Nobody
-allowed_by (b ∷ bs) = Bounded (bounds_of b)
+allowed_by [] = None
+allowed_by (b ∷ bs) = Some (bounds_of b)
 
 unfoldable pub limits_of : Sheet → Limits
 limits_of s = record { states = get_or s.limits 0 0; results = get_or s.limits 1 0 }

@@ -11,8 +11,8 @@ use lib.Seq.{get_or-drop}
 use Rattle.base_model.specs.declared.Rect.{Rect}
 use Rattle.base_model.specs.declared.Bounds.{Bounds}
 use Rattle.base_model.specs.declared.Position.{Position}
-use Rattle.base_model.specs.declared.Allow.{Allow}
-use Rattle.base_model.specs.declared.Allow.TheVariants.{Nobody, Bounded}
+use Rattle.base_model.specs.Allow.{Allow}
+use Rattle.std.specs.Prelude.{None, Some}
 use Rattle.base_model.specs.declared.Query.{Query}
 use Rattle.ground_rects.specs.Rects.{rect}
 use Rattle.sheet_form.specs.Sheets.{Sheet, sheet, signed_of, rect_of}
@@ -46,14 +46,14 @@ bounds_made words at =
     let e3 : get_or (drop at words) 3 0 ≡ get_or words (at + 3) 0 = get_or-drop at words 3 0 in
     rw (e0, e1, e2, e3)
 
-pub nobody_in : (allow : ℕ) (fixed : List ℕ) → allow ≡ 0 → Nobody ≡ allow_read allow fixed
+pub nobody_in : (allow : ℕ) (fixed : List ℕ) → allow ≡ 0 → None ≡ allow_read allow fixed
 unfolding allow_read
 nobody_in allow fixed e = sym (ap (λ (n : ℕ). allow_read n fixed) e)
 
-pub bounded_in : (allow : ℕ) (fixed : List ℕ) (b : Bounds) → (allow ≡ 0 → ⊥) → b ≡ bounds_of (drop 14 fixed) → Bounded b ≡ allow_read allow fixed
+pub bounded_in : (allow : ℕ) (fixed : List ℕ) (b : Bounds) → (allow ≡ 0 → ⊥) → b ≡ bounds_of (drop 14 fixed) → Some b ≡ allow_read allow fixed
 unfolding allow_read
 bounded_in zero fixed b n e = absurd (n refl)
-bounded_in (suc k) fixed b n e = ap Bounded e
+bounded_in (suc k) fixed b n e = ap Some e
 
 pub query_made : (allow : ℕ) (fixed : List ℕ) (w : Rect) (s t : Position) (b : Bounds) (a : Allow) → w ≡ rect_of (drop 2 fixed) → s ≡ position_in 6 fixed → t ≡ position_in 8 fixed
     → b ≡ bounds_of (drop 10 fixed) → a ≡ allow_read allow fixed → ◌≡◌ {A = Query} (record { window = w; start = s; end = t; block = b; allow = a }) (query_in allow fixed)
@@ -81,7 +81,7 @@ module _ (s : Sheet) (k : Counts) (fixed cells obstacles groups places : List �
     where
       go : (l : List (List ℕ)) → s.allow ≡ l → allow_read (length l) fixed ≡ allowed_by l
       go [] e = refl
-      go (b ∷ bs) e = ap Bounded (stands_bounds b 14 fixed (allow_wide s fit b bs e).0 (subst (λ (l : List (List ℕ)). Stands (get_or l 0 []) 14 fixed) e h.allow_stands))
+      go (b ∷ bs) e = ap Some (stands_bounds b 14 fixed (allow_wide s fit b bs e).0 (subst (λ (l : List (List ℕ)). Stands (get_or l 0 []) 14 fixed) e h.allow_stands))
 
   pub query_stands : query_in k.allow fixed ≡ query_of s
   unfolding query_in query_of start_of end_of position_in

@@ -1,8 +1,8 @@
 -- Vocabulary of private contracts: the sheet's values in the words that were read, and the flat forms that the calls take.
 use Rattle.std.specs.Prelude.{ℕ, zero, suc, ◌+◌, ◌*◌, ◌/◌, ◌%◌, ◌≤◌, ◌≡◌, List, ℤ, length, get_or, take, drop}
 use Rattle.base_model.specs.declared.Position.{Position}
-use Rattle.base_model.specs.declared.Allow.{Allow}
-use Rattle.base_model.specs.declared.Allow.TheVariants.{Nobody, Bounded}
+use Rattle.base_model.specs.Allow.{Allow}
+use Rattle.std.specs.Prelude.{None, Some}
 use Rattle.base_model.specs.declared.Limits.{Limits}
 use Rattle.base_model.specs.declared.Query.{Query}
 use Rattle.sheet_form.specs.Sheets.{Sheet, signed_of, rect_of}
@@ -15,8 +15,8 @@ unfoldable pub position_in : ℕ → List ℕ → Position
 position_in at fixed = record { x = get_or fixed at 0; y = get_or fixed (at + 1) 0 }
 
 unfoldable pub allow_read : ℕ → List ℕ → Allow
-allow_read zero fixed = Nobody
-allow_read (suc n) fixed = Bounded (bounds_of (drop 14 fixed))
+allow_read zero fixed = None
+allow_read (suc n) fixed = Some (bounds_of (drop 14 fixed))
 
 unfoldable pub query_in : (allow : ℕ) → List ℕ → Query
 query_in allow fixed = record {

@@ -11,7 +11,7 @@ ghost use Rattle.sheet_rule.specs.Drive.{bounds_of, drive_text};
 ghost use Rattle.sheet_values.specs.Inner.{position_in, allow_read, query_in, limits_read, number_at, edge_at, side_at};
 ghost use Rattle.sheet_values.specs.Inner.{Rooms, Fronts, FlatIn};
 
-use base_model::{Allow, Bounds, EDGES, Limits, NUMBERS, Position, Query, SIDES};
+use base_model::{Bounds, EDGES, Limits, NUMBERS, Position, Query, SIDES};
 use sheet_form::{
     ALLOW, BLOCK, END, LIMITS, MOST_OBSTACLES, MOST_PLACES, RESULTS, START, WINDOW, WORDS,
 };
@@ -42,14 +42,14 @@ fn bounds_in(words: &[u32], at: usize) -> Bounds
 }
 
 // The allowed mover, where there is a line for it.
-fn allow_in(fixed: &[u32], allow: usize) -> Allow
+fn allow_in(fixed: &[u32], allow: usize) -> Option<Bounds>
     requires { length fixed.now ≡ 20 }
     ensures { result ≡ allow_read allow fixed.now }
 {
     if allow == 0 {
-        return Allow::Nobody;
+        return None;
     }
-    Allow::Bounded(bounds_in(fixed, ALLOW))
+    Some(bounds_in(fixed, ALLOW))
 }
 
 // The query of a sheet, from the words of the lines that stand once.

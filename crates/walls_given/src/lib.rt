@@ -5,16 +5,16 @@ ghost use Rattle.std.specs.Prelude.{◌≡◌};
 ghost use Rattle.walls_numbers.specs.Numbers.{allow_from, query_from};
 ghost use Rattle.walls_numbers.specs.Lent.{lent_of};
 
-use base_model::{Allow, Bounds, Position, Query, Rect};
+use base_model::{Bounds, Position, Query, Rect};
 use walls_numbers::RECORD_NUMBERS;
 
-fn allow_from(given: u32, left: u32, top: u32, right: u32, bottom: u32) -> Allow
+fn allow_from(given: u32, left: u32, top: u32, right: u32, bottom: u32) -> Option<Bounds>
     ensures { result ≡ allow_from given left top right bottom }
 {
     if given == 0 {
-        return Allow::Nobody;
+        return None;
     }
-    Allow::Bounded(Bounds {
+    Some(Bounds {
         left: left,
         top: top,
         right: right,

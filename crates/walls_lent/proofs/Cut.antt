@@ -16,8 +16,8 @@ use Rattle.base_laws.specs.Lists.{any_of}
 use Rattle.base_laws.proofs.Members.{either}
 use Rattle.base_model.specs.Answers.{Said, refusal, first}
 use Rattle.base_model.proofs.Asking.{first_fails}
-use Rattle.base_model.specs.declared.Allow.{Allow}
-use Rattle.base_model.specs.declared.Allow.TheVariants.{Nobody, Bounded}
+use Rattle.base_model.specs.Allow.{Allow}
+use Rattle.std.specs.Prelude.{None, Some}
 use Rattle.base_model.specs.declared.Placement.{Placement}
 use Rattle.base_model.specs.declared.Query.{Query}
 use Rattle.base_model.specs.declared.Limits.{Limits}
@@ -178,8 +178,8 @@ module _ (q : Query) (groups block_base allow_base : List ℕ) (ps : List Placem
 
   allow_same : (steps : List Step) (m : Allow) → allowed steps all m ≡ allowed steps cut m
   unfolding board_of allowed_of mover_of route_checks leaves_open route_past any_of given
-  allow_same steps Nobody = refl
-  allow_same steps (Bounded b) = refl
+  allow_same steps None = refl
+  allow_same steps (Some b) = refl
 
   routes_same : (steps : List Step) → both_routes (board_of steps all) ≡ both_routes (board_of steps cut)
   unfolding both_routes board_of given

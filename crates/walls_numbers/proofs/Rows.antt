@@ -8,7 +8,7 @@ use lib.ListN.{replicate, take}
 use Rattle.base_laws.specs.Lists.{span}
 use Rattle.base_laws.specs.Fill.{filled}
 use Rattle.base_model.specs.Answers.{verdict_number}
-use Rattle.base_model.specs.declared.Allow.TheVariants.{Nobody, Bounded}
+use Rattle.std.specs.Prelude.{None, Some}
 use Rattle.base_model.specs.declared.Limits.{Limits}
 use Rattle.base_model.specs.declared.Record.{Record}
 use Rattle.base_model.specs.declared.Verdict.TheVariants.{Slots, Overlap, EndCovered, Open, Spare, Shut, Wall}
@@ -33,13 +33,13 @@ numbering = 0
 
 -- ---- values
 -- 0 is nobody, any other number a mover
-allowed : allow_from 0 5 6 7 8 ∷ allow_from 1 5 6 7 8 ∷ allow_from 2 5 6 7 8 ∷ [] ≡ Nobody ∷ Bounded (bounds 5 6 7 8) ∷ Bounded (bounds 5 6 7 8) ∷ []
+allowed : allow_from 0 5 6 7 8 ∷ allow_from 1 5 6 7 8 ∷ allow_from 2 5 6 7 8 ∷ [] ≡ None ∷ Some (bounds 5 6 7 8) ∷ Some (bounds 5 6 7 8) ∷ []
 unfolding numbering
 allowed = refl
 
 -- each of the seventeen numbers of a query in its place
 queried : query_from (pos 1) (pos 2) (pos 3) (pos 4) 5 6 7 8 9 10 11 12 1 14 15 16 17
-    ≡ record { window = box 1 2 3 4; start = at 5 6; end = at 7 8; block = bounds 9 10 11 12; allow = Bounded (bounds 14 15 16 17) }
+    ≡ record { window = box 1 2 3 4; start = at 5 6; end = at 7 8; block = bounds 9 10 11 12; allow = Some (bounds 14 15 16 17) }
 unfolding numbering
 queried = refl
 
@@ -87,7 +87,7 @@ spoilt = alone (good ∷ place 6 0 W W ∷ good ∷ [])
 
 -- the blocked mover reaches so far to the left, and its baseline has such bytes
 ground : (reach byte : ℕ) → Inputs
-ground m b = given W (at 0 1) (at 4 1) (bounds m 0 0 0) Nobody (2 ∷ []) places_p (replicate 15 b) []
+ground m b = given W (at 0 1) (at 4 1) (bounds m 0 0 0) None (2 ∷ []) places_p (replicate 15 b) []
 
 on_begin : Inputs → (numbers : List ℕ) → Left
 on_begin i ns = begin_on original_steps i l ns (work_for W) (store_for i l)
@@ -135,7 +135,7 @@ place_at a x f c = record { answer = a; index = x; first = f; count = c }
 -- with an allowed mover: two layouts, with routes of 2 points and 1
 routed : (k : ℕ) → LeftRead
 routed k =
-    read_on (given W (at 0 1) (at 4 1) still0 (Bounded still0) (2 ∷ []) places_p open0 open0) l (4 ∷ 2 ∷ 3 ∷ 2 ∷ 0 ∷ 0 ∷ 2 ∷ 1 ∷ replicate 42 0) k
+    read_on (given W (at 0 1) (at 4 1) still0 (Some still0) (2 ∷ []) places_p open0 open0) l (4 ∷ 2 ∷ 3 ∷ 2 ∷ 0 ∷ 0 ∷ 2 ∷ 1 ∷ replicate 42 0) k
     (record { lists = replicate 18 0; visited = replicate 35 0; layouts = replicate 14 0; points = replicate 60 9 })
 
 reading : List (Row LeftRead)

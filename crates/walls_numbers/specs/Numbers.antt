@@ -2,8 +2,8 @@
 use Rattle.std.specs.Prelude.{ℕ, zero, suc, Bool, true, false, List, [], ◌∷◌, ◌++◌, eqb, ℤ, get_or, take, drop}
 use Rattle.std.proofs.Math.Option.{Option, none, some}
 use Rattle.base_model.specs.Answers.{Said, verdict_number}
-use Rattle.base_model.specs.declared.Allow.{Allow}
-use Rattle.base_model.specs.declared.Allow.TheVariants.{Nobody, Bounded}
+use Rattle.base_model.specs.Allow.{Allow}
+use Rattle.std.specs.Prelude.{None, Some}
 use Rattle.base_model.specs.declared.Query.{Query}
 use Rattle.base_model.specs.declared.Record.{Record}
 use Rattle.ground_rects.specs.Rects.{rect}
@@ -12,8 +12,8 @@ use Rattle.rule_calls.specs.Calls.{Judgement, refuses, judges}
 -- ---- the query
 -- 0 is nobody; any other number lets the mover with these bounds pass
 unfoldable pub allow_from : (given left top right bottom : ℕ) → Allow
-allow_from zero left top right bottom = Nobody
-allow_from (suc n) left top right bottom = Bounded (record { left = left; top = top; right = right; bottom = bottom })
+allow_from zero left top right bottom = None
+allow_from (suc n) left top right bottom = Some (record { left = left; top = top; right = right; bottom = bottom })
 
 unfoldable pub query_from : (window_left window_top window_right window_bottom : ℤ) → (start_x start_y end_x end_y : ℕ)
     → (block_left block_top block_right block_bottom : ℕ)

@@ -1,13 +1,13 @@
 -- `call_checks::allow_long` meets its contract, in both cases.
 use mathlib.Core.Path.{sym, ap}
-use Rattle.base_model.specs.declared.Allow.{Allow}
+use Rattle.base_model.specs.Allow.{Allow}
 use Rattle.call_checks.specs.Parts.{allow_long}
 use Rattle.call_checks.proofs.allow_long.Goals as goal
 
-pub returns-in-Nobody : goal.returns-in-Nobody
+pub returns-in-None : goal.returns-in-None
 unfolding allow_long
-returns-in-Nobody c = sym (ap (λ (x : Allow). allow_long c.args.n x c.args.base) c.in-Nobody.is)
+returns-in-None c = sym (ap (λ (x : Allow). allow_long c.args.n x c.args.base) c.in-None.is)
 
-pub returns-in-Bounded : goal.returns-in-Bounded
+pub returns-in-Some : goal.returns-in-Some
 unfolding allow_long
-returns-in-Bounded c = sym (ap (λ (x : Allow). allow_long c.args.n x c.args.base) c.in-Bounded.is)
+returns-in-Some c = sym (ap (λ (x : Allow). allow_long c.args.n x c.args.base) c.in-Some.is)

@@ -3,10 +3,10 @@ use mathlib.Core.Path.{sym, ap, ◌∙◌}
 use Rattle.call_checks.specs.Parts.{allow_small}
 use Rattle.call_checks.proofs.allow_small.Goals as goal
 
-pub returns-in-Nobody : goal.returns-in-Nobody
+pub returns-in-None : goal.returns-in-None
 unfolding allow_small
-returns-in-Nobody c = sym (ap allow_small c.in-Nobody.is)
+returns-in-None c = sym (ap allow_small c.in-None.is)
 
-pub returns-in-Bounded : goal.returns-in-Bounded
+pub returns-in-Some : goal.returns-in-Some
 unfolding allow_small
-returns-in-Bounded c = c.small.ensures ∙ sym (ap allow_small c.in-Bounded.is)
+returns-in-Some c = c.small.ensures ∙ sym (ap allow_small c.in-Some.is)

@@ -5,15 +5,15 @@ use native.Mathlib.Omega.{arith}
 use native.Mathlib.Nat.{mul-le-mul, min-le_left}
 use Rattle.base_model.specs.declared.Limits.{Limits}
 use Rattle.base_model.specs.declared.Query.{Query}
-use Rattle.base_model.specs.declared.Allow.{Allow}
-use Rattle.base_model.specs.declared.Allow.TheVariants.{Nobody, Bounded}
+use Rattle.base_model.specs.Allow.{Allow}
+use Rattle.std.specs.Prelude.{None, Some}
 use Rattle.ground_rects.specs.Windows.{centres, width, height}
 use Rattle.ground_rects.proofs.Windows.{framed}
 use Rattle.call_lengths.specs.Lengths.{points_room}
 use Rattle.call_lengths.proofs.points_length.Goals as goal
 
 room : Query → Limits → Allow → ℕ
-room q l a = elim a [ Nobody ↦ 0 | Bounded m ↦ 2 * min 1000000 (l.results * centres q.window) ]
+room q l a = elim a [ None ↦ 0 | Some m ↦ 2 * min 1000000 (l.results * centres q.window) ]
 
 pub width-requires : goal.width-requires
 width-requires c =
@@ -40,19 +40,19 @@ overflow_mul-index c =
     let h : c.index.result * (c.width.result * c.height.result) ≤ 32 * 1048576 = mul-le-mul g f in
     omega arith
 
-pub returns-in-Nobody : goal.returns-in-Nobody
+pub returns-in-None : goal.returns-in-None
 unfolding points_room room
-returns-in-Nobody c =
-    (sym (ap (room c.args.query c.args.limits) c.in-Nobody.is), omega arith)
+returns-in-None c =
+    (sym (ap (room c.args.query c.args.limits) c.in-None.is), omega arith)
 
-pub returns-in-Bounded : goal.returns-in-Bounded
+pub returns-in-Some : goal.returns-in-Some
 unfolding points_room room centres
-returns-in-Bounded c =
+returns-in-Some c =
     let q = c.args.query in
     let l = c.args.limits in
     let e : c.index.result * (c.width.result * c.height.result) ≡ l.results * (width q.window * height q.window)
     = ap₂ ◌*◌ c.index.ensures (ap₂ ◌*◌ c.width.ensures.0 c.height.ensures.0)
     in (
-      c.pairs.ensures ∙ ap (λ (x : ℕ). 2 * min 1000000 x) e ∙ sym (ap (room q l) c.in-Bounded.is),
+      c.pairs.ensures ∙ ap (λ (x : ℕ). 2 * min 1000000 x) e ∙ sym (ap (room q l) c.in-Some.is),
       omega (arith, c.pairs.ensures, min-le_left 1000000 (c.index.result * (c.width.result * c.height.result))),
     )

@@ -17,13 +17,13 @@ returns-in_default c =
 pub check_passage-requires : goal.check_passage-requires
 check_passage-requires c =
     let a = c.args in
-    ready c.requires.0 (bounded_room (steps_of a.steps.now) a.query a.base.now _ c.in-Bounded.is c.requires.1)
+    ready c.requires.0 (bounded_room (steps_of a.steps.now) a.query a.base.now _ c.in-Some.is c.requires.1)
 
 pub returns : goal.returns
 returns c =
     let a = c.args in record {
       result_value = c.check_passage.ensures.result_value
-          ∙ bounded_passes (steps_of a.steps.now) a.query a.base.now _ c.in-Bounded.is;
+          ∙ bounded_passes (steps_of a.steps.now) a.query a.base.now _ c.in-Some.is;
       three_same =
           record {
             queue_same = c.check_passage.ensures.queue_unchanged.0;

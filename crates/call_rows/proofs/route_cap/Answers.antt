@@ -2,8 +2,8 @@
 use mathlib.Core.Path.{◌≡◌, sym, ◌∙◌, ap, ap₂}
 use Prim.Native.Nat.{◌*◌}
 use native.Mathlib.Omega.{arith}
-use Rattle.base_model.specs.declared.Allow.{Allow}
-use Rattle.base_model.specs.declared.Allow.TheVariants.{Nobody, Bounded}
+use Rattle.base_model.specs.Allow.{Allow}
+use Rattle.std.specs.Prelude.{None, Some}
 use Rattle.ground_rects.specs.Windows.{centres, width, height}
 use Rattle.ground_rects.proofs.Windows.{framed}
 use Rattle.call_rows.specs.Figures.{cap_of}
@@ -23,20 +23,20 @@ overflow_mul-result c =
     ap₂ ◌*◌ c.width.ensures.0 c.height.ensures.0 in
     omega (arith, e, (framed 8192 8192 c.args.query.window c.requires).few)
 
-pub returns-in-Nobody : goal.returns-in-Nobody
+pub returns-in-None : goal.returns-in-None
 unfolding cap_of
-returns-in-Nobody c =
+returns-in-None c =
     let q = c.args.query in
-    (sym (ap (λ (x : Allow). elim x [ Nobody ↦ 0 | Bounded m ↦ centres q.window ]) c.in-Nobody.is), omega arith)
+    (sym (ap (λ (x : Allow). elim x [ None ↦ 0 | Some m ↦ centres q.window ]) c.in-None.is), omega arith)
 
-pub returns-in-Bounded : goal.returns-in-Bounded
+pub returns-in-Some : goal.returns-in-Some
 unfolding cap_of centres
-returns-in-Bounded c =
+returns-in-Some c =
     let e : c.width.result * c.height.result ≡ width c.args.query.window
     * height c.args.query.window =
     ap₂ ◌*◌ c.width.ensures.0 c.height.ensures.0 in
     let q = c.args.query in (
-      e ∙ sym (ap (λ (x : Allow). elim x [ Nobody ↦ 0 | Bounded m ↦ centres q.window ]) c.in-Bounded.is),
+      e ∙ sym (ap (λ (x : Allow). elim x [ None ↦ 0 | Some m ↦ centres q.window ]) c.in-Some.is),
       omega (
         arith,
         e,

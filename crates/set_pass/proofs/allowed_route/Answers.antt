@@ -22,34 +22,34 @@ pub route_past-k-requires : goal.route_past-k-requires
 route_past-k-requires c =
     let a = c.args in record {
       route_lent = c.requires.route_lent;
-      moving = allow_moving a.window (steps_of a.steps.now) a.start a.end a.edges.now a.allow a.base.now a.set.now c.in-Bounded.mover c.in-Bounded.is
+      moving = allow_moving a.window (steps_of a.steps.now) a.start a.end a.edges.now a.allow a.base.now a.set.now c.in-Some.mover c.in-Some.is
           c.requires.allow_ready c.requires.named;
     }
 
 pub returns-then-k-eq0 : goal.returns-then-k-eq0
 returns-then-k-eq0 c =
     let a = c.args in
-    let e = allow_past a.window (steps_of a.steps.now) a.start a.end a.edges.now a.allow a.base.now a.set.now c.in-Bounded.mover c.in-Bounded.is in record {
+    let e = allow_past a.window (steps_of a.steps.now) a.start a.end a.edges.now a.allow a.base.now a.set.now c.in-Some.mover c.in-Some.is in record {
       allowed = allowed_shut _ a.route.now c.route_past-k.new.route c.route_past-k.result c.if-k-eq0.true
           (subst (λ (o : Option (List ℕ)). RouteFound o a.route.now
           c.route_past-k.new.route c.route_past-k.result) e
           c.route_past-k.ensures.route_found);
       search_restored = c.route_past-k.ensures.search_restored;
       map_after = map_past a.window (steps_of a.steps.now) a.start a.end a.edges.now a.allow a.base.now a.set.now
-          c.in-Bounded.mover c.in-Bounded.is a.map.now
+          c.in-Some.mover c.in-Some.is a.map.now
           c.route_past-k.new.map c.route_past-k.ensures.map_after;
     }
 
 pub returns : goal.returns
 returns c =
     let a = c.args in
-    let e = allow_past a.window (steps_of a.steps.now) a.start a.end a.edges.now a.allow a.base.now a.set.now c.in-Bounded.mover c.in-Bounded.is in record {
+    let e = allow_past a.window (steps_of a.steps.now) a.start a.end a.edges.now a.allow a.base.now a.set.now c.in-Some.mover c.in-Some.is in record {
       allowed = allowed_free _ a.route.now c.route_past-k.new.route c.route_past-k.result c.if-k-eq0.false
           (subst (λ (o : Option (List ℕ)). RouteFound o a.route.now
           c.route_past-k.new.route c.route_past-k.result) e
           c.route_past-k.ensures.route_found);
       search_restored = c.route_past-k.ensures.search_restored;
       map_after = map_past a.window (steps_of a.steps.now) a.start a.end a.edges.now a.allow a.base.now a.set.now
-          c.in-Bounded.mover c.in-Bounded.is a.map.now
+          c.in-Some.mover c.in-Some.is a.map.now
           c.route_past-k.new.map c.route_past-k.ensures.map_after;
     }

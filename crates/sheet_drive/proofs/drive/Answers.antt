@@ -39,32 +39,32 @@ returns-in-Refused c =
 pub slice_bounds-allowed-end : goal.slice_bounds-allowed-end
 slice_bounds-allowed-end c = sym c.prepare-answer.auto.baseline
 
-pub slice_bounds-allowed-end-in-Bounded : goal.slice_bounds-allowed-end-in-Bounded
-slice_bounds-allowed-end-in-Bounded c = sym c.prepare-answer.auto.counts
+pub slice_bounds-allowed-end-in-Some : goal.slice_bounds-allowed-end-in-Some
+slice_bounds-allowed-end-in-Some c = sym c.prepare-answer.auto.counts
 
-pub slice_bounds-allowed-end-in-Bounded-2 : goal.slice_bounds-allowed-end-in-Bounded-2
-slice_bounds-allowed-end-in-Bounded-2 c = sym c.prepare-answer.auto.map
+pub slice_bounds-allowed-end-in-Some-2 : goal.slice_bounds-allowed-end-in-Some-2
+slice_bounds-allowed-end-in-Some-2 c = sym c.prepare-answer.auto.map
 
-pub slice_bounds-allowed-end-in-Bounded-3 : goal.slice_bounds-allowed-end-in-Bounded-3
-slice_bounds-allowed-end-in-Bounded-3 c = sym c.prepare-answer.auto.queue
+pub slice_bounds-allowed-end-in-Some-3 : goal.slice_bounds-allowed-end-in-Some-3
+slice_bounds-allowed-end-in-Some-3 c = sym c.prepare-answer.auto.queue
 
-pub slice_bounds-allowed-end-in-Bounded-4 : goal.slice_bounds-allowed-end-in-Bounded-4
-slice_bounds-allowed-end-in-Bounded-4 c = sym c.prepare-answer.auto.predecessors
+pub slice_bounds-allowed-end-in-Some-4 : goal.slice_bounds-allowed-end-in-Some-4
+slice_bounds-allowed-end-in-Some-4 c = sym c.prepare-answer.auto.predecessors
 
-pub slice_bounds-allowed-end-in-Bounded-5 : goal.slice_bounds-allowed-end-in-Bounded-5
-slice_bounds-allowed-end-in-Bounded-5 c = sym c.prepare-answer.auto.route
+pub slice_bounds-allowed-end-in-Some-5 : goal.slice_bounds-allowed-end-in-Some-5
+slice_bounds-allowed-end-in-Some-5 c = sym c.prepare-answer.auto.route
 
 pub allowed-requires : goal.allowed-requires
 allowed-requires c = c.requires
 
-pub returns-in-Bounded : goal.returns-in-Bounded
+pub returns-in-Some : goal.returns-in-Some
 unfolding no_bytes no_work
-returns-in-Bounded c =
+returns-in-Some c =
     λ s h. drive_allowed _ s _ _ _ _ _ _ _ _ _ h
     c.prepare-answer.result
     _ _ _ _ _ c.prepare-answer.ensures
     c.in_default.is
-    _ c.in-Bounded.is
+    _ c.in-Some.is
     (λ m ms e. c.allowed.ensures s m ms h e)
 
 pub slice_bounds-search-end : goal.slice_bounds-search-end

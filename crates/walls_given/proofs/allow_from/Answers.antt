@@ -1,11 +1,11 @@
 -- `walls_given::allow_from` meets its contract, in both cases.
 use mathlib.Core.Path.{◌≡◌, refl, sym, ap}
 use Prim.Native.Nat.{ℕ, zero, suc}
-use Rattle.base_model.specs.declared.Allow.TheVariants.{Bounded}
+use Rattle.std.specs.Prelude.{Some}
 use Rattle.walls_numbers.specs.Numbers.{allow_from}
 use Rattle.walls_given.proofs.allow_from.Goals as goal
 
-bounded : (given left top right bottom : ℕ) → (given ≡ 0 → ⊥) → Bounded (record { left = left; top = top; right = right; bottom = bottom }) ≡ allow_from given left top right bottom
+bounded : (given left top right bottom : ℕ) → (given ≡ 0 → ⊥) → Some (record { left = left; top = top; right = right; bottom = bottom }) ≡ allow_from given left top right bottom
 unfolding allow_from
 bounded zero left top right bottom h = absurd (h refl)
 bounded (suc n) left top right bottom h = refl

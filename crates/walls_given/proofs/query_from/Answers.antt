@@ -1,6 +1,6 @@
 -- `walls_given::query_from` meets its contract: the window's sides are read back as signed numbers, all else stands as it is given.
 use mathlib.Core.Path.{ap₂}
-use Rattle.base_model.specs.declared.Allow.{Allow}
+use Rattle.base_model.specs.Allow.{Allow}
 use Rattle.base_model.specs.declared.Rect.{Rect}
 use Rattle.walls_numbers.specs.Numbers.{query_from}
 use Rattle.walls_numbers.proofs.Signed.{rect_back}
