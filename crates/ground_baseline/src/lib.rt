@@ -203,7 +203,7 @@ pub fn mark_baseline(
 {
     let stride = ground_rects::width(window) + 1;
     let n = stride * (ground_rects::height(window) + 1);
-    base_areas::clear_i32(counts, n);
+    base_areas::clear(counts, n, 0);
     stamp_terrain_blockers(counts, stride, cells, across as usize, window, mover);
     stamp_obstacles(counts, stride, obstacles, window, mover);
     ground_counts::finish(counts, stride, n);
@@ -215,7 +215,7 @@ pub fn mark_baseline(
         window,
         mover,
     );
-    base_areas::clear_i32(counts, n);
+    base_areas::clear(counts, n, 0);
 }
 
 // Whether each cell is 0 or 1.

@@ -27,8 +27,8 @@ overflow_mul-n c =
           c.width-stride.ensures.0 c.height.ensures.0,
     )
 
-pub clear_i32-requires : goal.clear_i32-requires
-clear_i32-requires c =
+pub clear-requires : goal.clear-requires
+clear-requires c =
     let a = c.args in
     room (record { across = a.across; down = a.down; cells = a.cells.now }) a.obstacles.now a.window a.mover a.counts.now
     (length a.baseline.now) c.width-stride.result c.height.result c.requires c.width-stride.ensures.0
@@ -39,14 +39,14 @@ stamp_terrain_blockers-requires c =
     let a = c.args in
     asks_terrain (record { across = a.across; down = a.down; cells = a.cells.now }) a.obstacles.now a.window a.mover
     a.counts.now (length a.baseline.now) c.width-stride.result c.height.result c.requires c.width-stride.ensures.0
-    c.height.ensures.0 c.clear_i32.new.s c.clear_i32.ensures
+    c.height.ensures.0 c.clear.new.s c.clear.ensures
 
 pub stamp_obstacles-requires : goal.stamp_obstacles-requires
 stamp_obstacles-requires c =
     let a = c.args in
     asks_obstacles (record { across = a.across; down = a.down; cells = a.cells.now }) a.obstacles.now a.window a.mover
     a.counts.now (length a.baseline.now) c.width-stride.result c.height.result c.requires c.width-stride.ensures.0
-    c.height.ensures.0 c.clear_i32.new.s c.clear_i32.ensures c.stamp_terrain_blockers.new.counts
+    c.height.ensures.0 c.clear.new.s c.clear.ensures c.stamp_terrain_blockers.new.counts
     c.stamp_terrain_blockers.ensures
 
 pub finish-requires : goal.finish-requires
@@ -54,7 +54,7 @@ finish-requires c =
     let a = c.args in
     asks_finish (record { across = a.across; down = a.down; cells = a.cells.now }) a.obstacles.now a.window a.mover
     a.counts.now (length a.baseline.now) c.width-stride.result c.height.result c.requires c.width-stride.ensures.0
-    c.height.ensures.0 c.clear_i32.new.s c.clear_i32.ensures c.stamp_terrain_blockers.new.counts
+    c.height.ensures.0 c.clear.new.s c.clear.ensures c.stamp_terrain_blockers.new.counts
     c.stamp_terrain_blockers.ensures c.stamp_obstacles.new.counts c.stamp_obstacles.ensures
 
 pub blocked_centers-requires : goal.blocked_centers-requires
@@ -62,19 +62,19 @@ blocked_centers-requires c =
     let a = c.args in
     asks_centres (record { across = a.across; down = a.down; cells = a.cells.now }) a.obstacles.now a.window a.mover
     a.counts.now (length a.baseline.now) c.width-stride.result c.height.result c.requires c.width-stride.ensures.0
-    c.height.ensures.0 c.clear_i32.new.s c.clear_i32.ensures c.stamp_terrain_blockers.new.counts
+    c.height.ensures.0 c.clear.new.s c.clear.ensures c.stamp_terrain_blockers.new.counts
     c.stamp_terrain_blockers.ensures c.stamp_obstacles.new.counts c.stamp_obstacles.ensures c.finish.new.counts c.finish.ensures
-    (c.finish.ensures.size ∙ c.stamp_obstacles.auto.counts ∙ c.stamp_terrain_blockers.auto.counts ∙ c.clear_i32.auto.s)
+    (c.finish.ensures.size ∙ c.stamp_obstacles.auto.counts ∙ c.stamp_terrain_blockers.auto.counts ∙ c.clear.auto.s)
 
-pub clear_i32-requires-2 : goal.clear_i32-requires-2
-clear_i32-requires-2 c =
+pub clear-requires-2 : goal.clear-requires-2
+clear-requires-2 c =
     let a = c.args in
     omega (
       arith,
       room (record { across = a.across; down = a.down; cells = a.cells.now }) a.obstacles.now a.window a.mover
           a.counts.now (length a.baseline.now) c.width-stride.result c.height.result c.requires c.width-stride.ensures.0
           c.height.ensures.0,
-      (c.finish.ensures.size ∙ c.stamp_obstacles.auto.counts ∙ c.stamp_terrain_blockers.auto.counts ∙ c.clear_i32.auto.s),
+      (c.finish.ensures.size ∙ c.stamp_obstacles.auto.counts ∙ c.stamp_terrain_blockers.auto.counts ∙ c.clear.auto.s),
     )
 
 pub returns : goal.returns
@@ -82,12 +82,12 @@ returns c =
     let a = c.args in record {
       baseline_after = marked (record { across = a.across; down = a.down; cells = a.cells.now }) a.obstacles.now a.window a.mover
           a.counts.now (length a.baseline.now) c.width-stride.result c.height.result c.requires c.width-stride.ensures.0
-          c.height.ensures.0 c.clear_i32.new.s c.clear_i32.ensures c.stamp_terrain_blockers.new.counts
+          c.height.ensures.0 c.clear.new.s c.clear.ensures c.stamp_terrain_blockers.new.counts
           c.stamp_terrain_blockers.ensures c.stamp_obstacles.new.counts c.stamp_obstacles.ensures c.finish.new.counts c.finish.ensures
           a.baseline.now c.blocked_centers.new.baseline c.blocked_centers.ensures;
       counts_after = cleared (record { across = a.across; down = a.down; cells = a.cells.now }) a.obstacles.now a.window a.mover
           a.counts.now (length a.baseline.now) c.width-stride.result c.height.result c.requires c.width-stride.ensures.0
-          c.height.ensures.0 c.clear_i32.new.s c.clear_i32.ensures c.stamp_terrain_blockers.new.counts
+          c.height.ensures.0 c.clear.new.s c.clear.ensures c.stamp_terrain_blockers.new.counts
           c.stamp_terrain_blockers.ensures c.stamp_obstacles.new.counts c.stamp_obstacles.ensures c.finish.new.counts c.finish.ensures
-          c.clear_i32-2.new.s c.clear_i32-2.ensures;
+          c.clear-2.new.s c.clear-2.ensures;
     }
