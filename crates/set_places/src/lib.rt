@@ -68,17 +68,14 @@ impl FlatPlaces<'_> {
     }
 
     // How many members are of the group.
+    #[tactic(auto, using(crate::proofs::Counting::group_counted))]
     pub fn count_in_group(&self, set: &[u16], group: usize) -> usize
         requires { InRow self.now.numbers.now set.now }
         ensures { result ≡ of_group self.now.numbers.now group set.now }
     {
-        let mut count = 0;
-        for &m in set {
-            if self.group(m as usize) == group {
-                count += 1;
-            }
-        }
-        count
+        set.iter()
+            .filter(|&&m| self.group(m as usize) == group)
+            .count()
     }
 
     // The footprint of placement i: the first of its two rectangles.
