@@ -14,7 +14,7 @@ use Rattle.std.specs.Prelude.{None, Some}
 use Rattle.base_model.specs.declared.Limits.{Limits}
 use Rattle.base_model.specs.declared.Refusal.TheVariants.{PlacementInvalid}
 use Rattle.base_model.specs.declared.Verdict.TheVariants.{Slots, Spare, Wall}
-use Rattle.base_model.specs.declared.Judged.TheVariants.{Verdict as AVerdict, Refused as ARefusal}
+use Rattle.std.specs.Prelude.{Ok, Err}
 use Rattle.rule_routes.specs.Edges.{original_steps}
 use Rattle.rule_layouts.specs.Inputs.{Inputs}
 use Rattle.rule_layouts.specs.Flat.{placements_of}
@@ -225,6 +225,6 @@ unfolding computing driving judged corridor
 judge_leaves = refl
 
 -- the answers of the code
-pub answers_judged : judgement_of (AVerdict Spare 10) ∷ judgement_of (ARefusal (PlacementInvalid 7)) ∷ [] ≡ judges Spare 10 ∷ refuses (record { number = 15; values = 7 ∷ [] }) ∷ []
+pub answers_judged : judgement_of (Ok (record { verdict = Spare; ground = 10 })) ∷ judgement_of (Err (PlacementInvalid 7)) ∷ [] ≡ judges Spare 10 ∷ refuses (record { number = 15; values = 7 ∷ [] }) ∷ []
 unfolding computing
 answers_judged = refl

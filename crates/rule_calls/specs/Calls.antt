@@ -1,6 +1,6 @@
 -- The calls: from all that each is given to all that it leaves (RULES 1.9, 6.8, 7.1, 7.3, 7.4, 7.5, 7.6, 7.7, 8.1, 8.2, 8.5, 14). Preparing, beginning, stepping and
 -- judging go over an order of steps. The caller gives it as a table: 19 unless that fits, before every other check and writing nothing, and else the call over its order.
-use Rattle.std.specs.Prelude.{ℕ, ◌*◌, Bool, true, false, ◌&&◌, List, [], ◌∷◌, ◌++◌, leb, ltb, ℤ, length, replicate}
+use Rattle.std.specs.Prelude.{ℕ, ◌*◌, Bool, true, false, ◌&&◌, List, [], ◌∷◌, ◌++◌, leb, ltb, ℤ, length, replicate, Result, Ok, Err}
 use Rattle.std.proofs.Math.Option.{Option, none, some}
 use Rattle.base_laws.specs.Lists.{all_of, ascends}
 use Rattle.base_model.specs.Answers.{Said, refusal, ask, first, said_of}
@@ -12,7 +12,7 @@ use Rattle.base_model.specs.declared.Limits.{Limits}
 use Rattle.base_model.specs.declared.Record.{Record}
 use Rattle.base_model.specs.declared.Verdict.{Verdict}
 use Rattle.base_model.specs.declared.Judged.{Judged}
-use Rattle.base_model.specs.declared.Judged.TheVariants.{Verdict as AVerdict, Refused as ARefusal}
+use Rattle.base_model.specs.declared.Refusal.{Refusal}
 use Rattle.ground_rects.specs.Rects.{nonempty, small, rects_of}
 use Rattle.ground_rects.specs.Windows.{centres, window_fits, in_window, position_of}
 use Rattle.ground_baseline.specs.Baseline.{Map, map_fits, baseline_of}
@@ -191,9 +191,9 @@ pub data Judgement : Type 0 where
   judges : Verdict → (ground : ℕ) → Judgement
 
 -- the number and values for each answer of the code
-unfoldable pub judgement_of : Judged → Judgement
-judgement_of (AVerdict v n) = judges v n
-judgement_of (ARefusal r) = refuses (said_of r)
+unfoldable pub judgement_of : Result Judged Refusal → Judgement
+judgement_of (Ok j) = judges j.verdict j.ground
+judgement_of (Err r) = refuses (said_of r)
 
 pub record AfterJudge : Type 0 where
   pub answer : Judgement
