@@ -90,6 +90,11 @@ pub record After : Type 0 where
   pub work : Work
   pub store : Store
 
+-- the search record once a call has answered: the one that it hands back, and on a refusal the one before
+unfoldable pub record_or : Record → Result Record Refusal → Record
+record_or before (Ok after) = after
+record_or before (Err r) = before
+
 unfoldable pub no_record : Record
 no_record = record {
   reason = 0;
