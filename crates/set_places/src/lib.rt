@@ -1,36 +1,19 @@
 // Placements lent flat, read by index.
 #![tactic(auto)]
 
-ghost use Rattle.std.specs.Prelude.{◌≡◌, ◌+◌, ◌*◌, ◌≤◌, length, get_or};
+ghost use Rattle.std.specs.Prelude.{◌≡◌, ◌+◌, ◌*◌, ◌≤◌, ◌<◌, length, get_or};
 ghost use Rattle.rule_layouts.specs.Flat.{rect_at};
-ghost use Rattle.set_places.specs.Groups.{of_group, InRow};
+ghost use Rattle.set_places.specs.Groups.{of_group, taken, InRow};
 
-use base_model::{NUMBERS, Query, RECTS, Rect, index, member};
+use base_model::{NUMBERS, Query, RECTS, Rect};
+use std::cmp::Ordering;
 
 // The group of placement i.
 pub fn group_at(numbers: &[u32], i: usize) -> usize
     requires { 4 * i + 4 ≤ length numbers.now }
     ensures { result ≡ get_or numbers.now (4 * i + 1) 0 }
 {
-    index(numbers[i * NUMBERS + 1])
-}
-
-// How many members are of the group.
-pub fn count_in_group(numbers: &[u32], set: &[u16], group: usize) -> usize
-    requires { InRow numbers.now set.now }
-    ensures { result ≡ of_group numbers.now group set.now }
-{
-    let mut count = 0;
-    let mut j = 0;
-    while j < set.len() {
-        let m = member(set[j]);
-        j += 1;
-        if group_at(numbers, m) != group {
-            continue;
-        }
-        count += 1;
-    }
-    count
+    numbers[i * NUMBERS + 1] as usize
 }
 
 // The footprint of placement i: the first of its two rectangles.
@@ -76,6 +59,18 @@ impl FlatPlaces<'_> {
         set.iter()
             .filter(|&&m| self.group(m as usize) == group)
             .count()
+    }
+
+    // How many members are of the group of placement i, as against its slots: fewer, as many, or more.
+    pub fn slots_taken(&self, set: &[u16], i: usize) -> Ordering
+        requires in_row { InRow self.now.numbers.now set.now }
+        requires i_in_bounds { 4 * i + 4 ≤ length self.now.numbers.now }
+        requires grouped { get_or self.now.numbers.now (4 * i + 1) 0 < length self.now.groups.now }
+        ensures { result ≡ taken self.now.groups.now self.now.numbers.now set.now i }
+    {
+        let group = self.group(i);
+        let slots = self.groups[group] as usize;
+        self.count_in_group(set, group).cmp(&slots)
     }
 
     // The footprint of placement i: the first of its two rectangles.
