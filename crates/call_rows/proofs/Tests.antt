@@ -15,6 +15,7 @@ use Rattle.base_laws.specs.Lists.{all_of, span, below, total, ascends}
 use Rattle.base_laws.proofs.Members.{either, both, both_true, same_truth, all_member, below_in}
 use Rattle.base_laws.proofs.Sets.{ascends_head, ascends_tail, ascends_cons}
 use Rattle.base_laws.proofs.Tests.{below_last}
+use Rattle.call_rows.specs.Figures.{routes_pass}
 
 -- ---- a test of each number below n
 all_append : {A : Type 0} (f : A → Bool) (xs ys : List A) → all_of f (xs ++ ys) ≡ (all_of f xs && all_of f ys)
@@ -53,9 +54,11 @@ module _ (cap sum : ℕ) (xs : List ℕ) (i : ℕ) where
   unfolding adds all_of total
   adds_end h = let e : sum + 0 ≡ sum = omega arith in rw (drop_of_length-le xs h, e)
 
-pub adds_none : (cap : ℕ) (xs : List ℕ) → adds cap 0 xs ≡ (all_of (λ (n : ℕ). leb n cap) xs && leb (total xs) 1000000)
-unfolding adds
+pub adds_none : (cap : ℕ) (xs : List ℕ) → adds cap 0 xs ≡ routes_pass cap xs
+unfolding adds routes_pass
 adds_none cap xs = let e : 0 + total xs ≡ total xs = omega arith in rw e
+
+pub ruleset adding = (adds_none, adds_fails, adds_on, adds_end)
 
 -- ---- a row: each member at least `low` and one above the member before, and one of n placements
 unfoldable pub climbs : ℕ → ℕ → List ℕ → Bool
@@ -105,3 +108,5 @@ module _ (low n : ℕ) (xs : List ℕ) (i : ℕ) (h : i < length xs) where
 pub climbs_end : (low n : ℕ) (xs : List ℕ) (i : ℕ) → length xs ≤ i → climbs low n (drop i xs) ≡ true
 unfolding climbs
 climbs_end low n xs i h = rw (drop_of_length-le xs h)
+
+pub ruleset climbing = (climbs_is, climbs_low, climbs_high, climbs_on, climbs_end)
