@@ -1,16 +1,17 @@
 -- The map that a set of placements leaves a mover: a byte for each centre, 0 where it is open and 1 elsewhere.
-use Rattle.std.specs.Prelude.{ℕ, zero, suc, ◌+◌, ◌*◌, ◌≤◌, ◌<◌, ◌≡◌, Bool, true, false, not, cond, eqb, ℤ, length, get_or}
+use Rattle.std.specs.Prelude as std
+use Rattle.std.specs.Prelude.{None, Some, ℕ, zero, suc, ◌+◌, ◌*◌, ◌≤◌, ◌<◌, ◌≡◌, Bool, true, false, not, cond, eqb, ℤ, length, get_or}
 use Rattle.std.proofs.Math.Option.{Option, none, some}
 use mathlib.Core.List.{List, [], ◌∷◌, map, Memᴰ}
 use Rattle.base_laws.specs.Lists.{below}
 use Rattle.base_model.specs.declared.Rect.{Rect}
 use Rattle.base_model.specs.declared.Bounds.{Bounds}
 use Rattle.base_model.specs.Allow.{Allow}
-use Rattle.std.specs.Prelude.{None, Some}
 use Rattle.ground_rects.specs.Rects.{nonempty, small, keeps_off}
 use Rattle.ground_rects.specs.Windows.{centres, pixel_x, pixel_y}
 use Rattle.rule_layouts.specs.Boards.{Mover, leaves_open}
 use Rattle.rule_layouts.specs.Flat.{rect_at}
+use Rattle.set_blocked.specs.declared.Mover as code
 
 unfoldable pub bit : Bool → ℕ
 bit true = 1
@@ -27,6 +28,10 @@ mover_in w edges m base = record {
   kept_off = λ i c. keeps_off (rect_at edges (8 * i + 4)) m (pixel_x w c) (pixel_y w c);
 }
 
+-- a mover as the code has it
+abbrev pub mover_on : Rect → List ℤ → code.Mover → Mover
+mover_on w edges m = mover_in w edges m.bounds m.base.now
+
 -- the allowed mover, if there is one, that the row keeps off
 unfoldable pub allow_in : Rect → List ℤ → Allow → List ℕ → Option Mover
 allow_in w edges None base = none
@@ -37,6 +42,11 @@ unfoldable pub without_at : ℕ → List ℕ → List ℕ
 without_at k [] = []
 without_at zero (x ∷ s) = s
 without_at (suc k) (x ∷ s) = x ∷ without_at k s
+
+-- the set without the member lifted, if one is
+abbrev pub left_by : std.Option ℕ → List ℕ → List ℕ
+left_by None s = s
+left_by (Some k) s = without_at k s
 
 -- the map has a byte for each centre of a window, and the mover is small
 pub record Ground (w : Rect) (m : Bounds) (cells : List ℕ) : Type 0 where

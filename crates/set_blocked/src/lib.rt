@@ -4,20 +4,17 @@
 ghost use Rattle.std.specs.Prelude.{◌≡◌, not, ◌≤◌, eqb, length, get_or};
 ghost use Rattle.base_laws.specs.Fill.{filled};
 ghost use Rattle.ground_rects.specs.Windows.{centres};
-ghost use Rattle.set_blocked.specs.Blocked.{bit, blocked_map, mover_in, without_at, Ground, Named, CollisionStamped};
+ghost use Rattle.set_blocked.specs.Blocked.{bit, blocked_map, mover_on, left_by, Ground, Named, CollisionStamped};
 
-use base_model::{Bounds, Rect, member};
+use base_model::{Bounds, Rect};
 use ground_spans::Change;
-use set_places::collision_at;
+use set_places::FlatPlaces;
 
-// A byte of a baseline as 0 or 1.
-fn mark(b: u8) -> u8
-    ensures { result ≡ bit (not (eqb b 0)) }
-{
-    if b == 0 {
-        return 0;
-    }
-    1
+// A mover: how far it reaches from its centre, and its baseline, 0 where it can stand.
+#[derive(Clone, Copy)]
+pub struct Mover<'a> {
+    pub bounds: Bounds,
+    pub base: &'a [u8],
 }
 
 // Copies as much of a baseline as the map holds, with 1 for any byte that is not zero.
@@ -26,10 +23,8 @@ fn copy_base(base: &[u8], map: &mut [u8])
     ensures { map.new ≡ filled (λ i. bit (not (eqb (get_or base.now i 0) 0))) (length map.old)
         map.old }
 {
-    let mut i = 0;
-    while i < map.len() {
-        map[i] = mark(base[i]);
-        i += 1;
+    for (i, to) in map.iter_mut().enumerate() {
+        *to = u8::from(base[i] != 0);
     }
 }
 
@@ -43,31 +38,26 @@ pub fn stamp_collision_into(map: &mut [u8], window: Rect, collision: Rect, mover
     ground_spans::change_span(Change::Mark, map, width, span);
 }
 
-// Fills the map with what the set without its member number `lifted` leaves the mover.
+// Fills the map with what the set, without its member number `lifted` where one is lifted, leaves the mover.
 pub fn blocked_for(
-    base: &[u8],
+    mover: &Mover<'_>,
     window: Rect,
-    edges: &[i32],
-    mover: Bounds,
+    places: &FlatPlaces<'_>,
     set: &[u16],
-    lifted: usize,
+    lifted: Option<usize>,
     map: &mut [u8],
 )
-    requires ground { Ground window mover map.old }
-    requires map_in_bounds { length map.old ≤ length base.now }
-    requires named { Named edges.now set.now }
-    ensures { map.new ≡ blocked_map (mover_in window edges.now mover base.now) (centres window)
-        (without_at lifted set.now) }
+    requires ground { Ground window mover.now.bounds map.old }
+    requires map_in_bounds { length map.old ≤ length mover.now.base.now }
+    requires named { Named places.now.edges.now set.now }
+    ensures { map.new ≡ blocked_map (mover_on window places.now.edges.now mover.now) (centres window) (left_by lifted set.now) }
 {
-    copy_base(base, map);
-    let mut j = 0;
-    while j < set.len() {
-        let at = j;
-        j += 1;
-        if at == lifted {
+    copy_base(mover.base, map);
+    for (k, m) in set.iter().enumerate() {
+        if lifted == Some(k) {
             continue;
         }
-        let collision = collision_at(edges, member(set[at]));
-        stamp_collision_into(map, window, collision, mover);
+        let collision = places.collision(*m as usize);
+        stamp_collision_into(map, window, collision, mover.bounds);
     }
 }
