@@ -9,7 +9,7 @@ use Rattle.base_laws.proofs.Members.{get_d_member}
 use Rattle.ground_rects.specs.Windows.{centres}
 use Rattle.set_blocked.specs.Blocked.{blocked_map, mover_on, left_by}
 use Rattle.set_blocked.proofs.Without.{left_none, left_skip, left_more}
-use Rattle.set_blocked.proofs.Members.{blocked_none, blocked_more, length_blocked}
+use Rattle.set_blocked.proofs.Members.{blocked_none, blocked_more}
 use Rattle.set_blocked.proofs.blocked_for.Goals as goal
 
 pub loop-k-init : goal.loop-k-init
