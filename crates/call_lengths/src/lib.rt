@@ -2,12 +2,42 @@
 #![tactic(auto)]
 
 ghost use Rattle.std.specs.Prelude.{◌≡◌, true, ◌*◌, ◌≤◌, min, length};
-ghost use Rattle.ground_rects.specs.Windows.{window_fits};
+ghost use Rattle.ground_rects.specs.Windows.{centres, window_fits};
 ghost use Rattle.rule_layouts.specs.Inputs.{Inputs};
-ghost use Rattle.rule_calls.specs.Areas.{Work, Store, work_fits, store_fits};
+ghost use Rattle.rule_calls.specs.Areas as areas;
+ghost use Rattle.rule_calls.specs.Areas.{counts_length, work_fits, store_fits};
 ghost use Rattle.call_lengths.specs.Lengths.{WorkHas, StoreHas, points_room};
+ghost use Rattle.call_lengths.specs.Lent.{work_of, store_of_areas, kept_in};
 
-use base_model::{Limits, POINTS, Query, ROW, Rect, SLOTS, index};
+use base_model::{Limits, POINTS, Query, ROW, Rect, SLOTS};
+
+// The working areas.
+#[derive(Drop)]
+pub struct Work<'a> {
+    pub counts: &'a mut [i32],
+    pub map: &'a mut [u8],
+    pub queue: &'a mut [u32],
+    pub predecessors: &'a mut [u32],
+    pub route: &'a mut [u32],
+}
+
+// The areas that hold a search.
+#[derive(Drop)]
+pub struct Store<'a> {
+    pub lists: &'a mut [u16],
+    pub visited: &'a mut [u16],
+    pub layouts: &'a mut [u16],
+    pub points: &'a mut [u32],
+}
+
+// The same, where they are only read.
+#[derive(Clone, Copy)]
+pub struct Kept<'a> {
+    pub lists: &'a [u16],
+    pub visited: &'a [u16],
+    pub layouts: &'a [u16],
+    pub points: &'a [u32],
+}
 
 // How many entries the working areas have.
 #[derive(Clone, Copy)]
@@ -28,71 +58,111 @@ pub struct StoreLengths {
     pub points: usize,
 }
 
-// Whether the working areas have room for the window.
-pub fn work_fits(window: Rect, room: WorkLengths) -> bool
-    requires { window_fits 8192 8192 window ≡ true }
-    ensures { (a : Work) → WorkHas a room → result ≡ work_fits window a }
-{
-    let width = ground_rects::width(window);
-    let height = ground_rects::height(window);
-    let c = width * height;
-    if room.counts < (width + 1) * (height + 1) {
-        return false;
+impl Work<'_> {
+    pub fn lengths(&self) -> WorkLengths
+        ensures { WorkHas (work_of self.now) result }
+    {
+        WorkLengths {
+            counts: self.counts.len(),
+            map: self.map.len(),
+            queue: self.queue.len(),
+            predecessors: self.predecessors.len(),
+            route: self.route.len(),
+        }
     }
-    if room.map < c {
-        return false;
-    }
-    if room.queue < c {
-        return false;
-    }
-    if room.predecessors < c {
-        return false;
-    }
-    c <= room.route
 }
 
-// How many numbers the most points are.
-const MOST_NUMBERS: usize = 2 * POINTS;
+impl Store<'_> {
+    pub fn lengths(&self) -> StoreLengths
+        ensures { StoreHas (store_of_areas self.now) result }
+    {
+        StoreLengths {
+            lists: self.lists.len(),
+            visited: self.visited.len(),
+            layouts: self.layouts.len(),
+            points: self.points.len(),
+        }
+    }
+}
+
+impl Kept<'_> {
+    pub fn lengths(&self) -> StoreLengths
+        ensures { StoreHas (kept_in self.now) result }
+    {
+        let Kept {
+            lists,
+            visited,
+            layouts,
+            points,
+        } = *self;
+        StoreLengths {
+            lists: lists.len(),
+            visited: visited.len(),
+            layouts: layouts.len(),
+            points: points.len(),
+        }
+    }
+}
+
+// How many centres the window has.
+pub fn centres(window: Rect) -> usize
+    requires { window_fits 8192 8192 window ≡ true }
+    ensures { (result ≡ centres window) × (result ≤ 1048576) }
+{
+    ground_rects::width(window) * ground_rects::height(window)
+}
+
+// The length of the counts: one more than the window in width and in height.
+pub fn counts_length(window: Rect) -> usize
+    requires { window_fits 8192 8192 window ≡ true }
+    ensures { result ≡ counts_length window }
+{
+    (ground_rects::width(window) + 1) * (ground_rects::height(window) + 1)
+}
+
+// Whether the working areas have room for the window.
+#[tactic(auto, unfolding(rule_calls::specs::Areas::work_fits))]
+pub fn work_fits(window: Rect, room: WorkLengths) -> bool
+    requires { window_fits 8192 8192 window ≡ true }
+    ensures { (a : areas.Work) → WorkHas a room → result ≡ work_fits window a }
+{
+    let c = centres(window);
+    counts_length(window) <= room.counts
+        && c <= room.map
+        && c <= room.queue
+        && c <= room.predecessors
+        && c <= room.route
+}
 
 // Two numbers for each of at most 1,000,000 points.
 fn pairs(most: usize) -> usize
     ensures { result ≡ 2 * min 1000000 most }
 {
-    if most > POINTS {
-        return MOST_NUMBERS;
-    }
-    2 * most
+    2 * most.min(POINTS)
 }
 
 // The length of the points area.
+#[tactic(auto, unfolding(crate::specs::Lengths::points_room))]
 pub fn points_length(query: Query, limits: Limits) -> usize
     requires { (window_fits 8192 8192 query.window ≡ true) × (limits.results ≤ 32) }
     ensures { (result ≡ points_room query limits) × (result ≤ 2000000) }
 {
-    let allow = query.allow;
-    match allow {
+    match query.allow {
         None => 0,
-        Some(_) => pairs(
-            index(limits.results)
-                * (ground_rects::width(query.window) * ground_rects::height(query.window)),
-        ),
+        Some(_) => pairs(limits.results as usize * centres(query.window)),
     }
 }
 
 // Whether the areas have room for a search over so many placements.
+#[tactic(auto, unfolding(rule_calls::specs::Areas::store_fits, rule_calls::specs::Areas::points_length, crate::specs::Lengths::points_room))]
 pub fn store_fits(query: Query, limits: Limits, places: usize, room: StoreLengths) -> bool
     requires { (window_fits 8192 8192 query.window ≡ true) × ((limits.states ≤ 100000) × (limits.results ≤ 32)) }
-    ensures { (i : Inputs) (a : Store) → i.query ≡ query → length i.places ≡ places → StoreHas a room
+    ensures { (i : Inputs) (a : areas.Store) → i.query ≡ query → length i.places ≡ places → StoreHas a room
         → result ≡ store_fits i limits a }
 {
-    if places > room.lists / SLOTS {
-        return false;
-    }
-    if room.visited < ROW * index(limits.states) {
-        return false;
-    }
-    if room.layouts < ROW * index(limits.results) {
-        return false;
-    }
-    points_length(query, limits) <= room.points
+    // a sixth of the area is compared, since the product may pass the largest number
+    places <= room.lists / SLOTS
+        && ROW * limits.states as usize <= room.visited
+        && ROW * limits.results as usize <= room.layouts
+        && points_length(query, limits) <= room.points
 }
