@@ -29,9 +29,3 @@ off_axis low high back ahead x = le_z (low -ℤ pos back) x && lt_z x (high +ℤ
 pub record ClippedAxis (low high : ℤ) (back ahead : ℕ) (from to : ℤ) (a b : ℕ) : Type 0 where
   pub within : b ≤ nat_abs (to -ℤ from)
   pub law : (x : ℕ) → x < nat_abs (to -ℤ from) → (leb a x && ltb x b) ≡ off_axis low high back ahead (from +ℤ pos x)
-
--- r of the numbers from `from` up to `to` lie before the edge
-pub record Clamped (edge from to r : ℕ) : Type 0 where
-  pub within : from + r ≤ to
-  pub low : (x : ℕ) → from + x < to → leb r x ≡ leb edge (from + x)
-  pub high : (x : ℕ) → from + x < to → ltb x r ≡ ltb (from + x) edge

@@ -2,24 +2,20 @@
 use mathlib.Core.Path.{sym, ◌∙◌, ap₂}
 use mathlib.Core.Bool.{◌&&◌}
 use Prim.Native.Nat.{◌/◌, ◌%◌}
+use native.Mathlib.Omega.{arith}
+use Rattle.std.proofs.lemmas.Int.{ints}
 use Rattle.ground_rects.specs.Windows.{width, height, pixel_x, pixel_y}
 use Rattle.ground_rects.specs.Spans.{in_span}
 use Rattle.ground_rects.proofs.Edges.{edges}
 use Rattle.ground_rects.proofs.Axes.{keeps_axes}
-use Rattle.ground_rects.proofs.Windows.{bounded, nonempty_both, column_lt, row_lt}
+use Rattle.ground_rects.proofs.Windows.{nonempty_both, column_lt, row_lt}
 use Rattle.ground_rects.proofs.clip.Goals as goal
 
 pub clip_axis-x-requires : goal.clip_axis-x-requires
-clip_axis-x-requires c =
-    let a = c.args in
-    let w = edges a.window c.struct_told-3-1.given in
-    ((bounded a.mover c.requires.1).right, rw (w.left, w.right) (nonempty_both a.window c.requires.0).0)
+clip_axis-x-requires c = grind (arith, ints, nonempty_both c.args.window c.requires.0)
 
 pub clip_axis-y-requires : goal.clip_axis-y-requires
-clip_axis-y-requires c =
-    let a = c.args in
-    let w = edges a.window c.struct_told-3-1.given in
-    ((bounded a.mover c.requires.1).bottom, rw (w.top, w.bottom) (nonempty_both a.window c.requires.0).1)
+clip_axis-y-requires c = grind (arith, ints, nonempty_both c.args.window c.requires.0)
 
 pub returns : goal.returns
 unfolding in_span width height pixel_x pixel_y

@@ -1,40 +1,31 @@
--- `ground_rects::clip_axis` meets its contract: both sides of each test are 2^31 + 256 more than the numbers of the rule.
-use mathlib.Core.Path.{◌∙◌, ap₂}
+-- `ground_rects::clip_axis` meets its contract: an edge held between `from` and `to` lies on the same side of each number between them.
+use mathlib.Core.Path.{◌≡◌, ◌∙◌, ap₂}
 use mathlib.Core.Bool.{◌&&◌}
-use Prim.Native.Nat.{◌+◌, ◌-◌}
+use Prim.Native.Nat.{ℕ}
+use lib.Dec.{leb, ltb}
 use native.Mathlib.Omega.{arith}
-use lib.IntN.{pos, ◌+ℤ◌, ◌-ℤ◌}
-use mir.Facts.{to_z-of_z}
-use Rattle.base_laws.proofs.Ints.{add_parts, minus_parts, lt_z_fact, leb_le_z, ltb_lt_z}
-use Rattle.ground_rects.specs.Spans.{off_axis}
-use Rattle.ground_rects.proofs.Windows.{gap_parts}
+use lib.IntN.{ℤ, pos, ◌+ℤ◌, ◌-ℤ◌}
+use lib.Signed.{◌<ℤ◌, le_z, lt_z}
+use Rattle.std.specs.Int.{int_max, int_min}
+use Rattle.std.proofs.lemmas.Int.{ints, clamps}
+use Rattle.std.proofs.lemmas.Bool.Decides.{nat_tests}
+use Rattle.ground_rects.specs.Spans.{off_axis, ClippedAxis}
 use Rattle.ground_rects.proofs.clip_axis.Goals as goal
 
-pub clamped-requires : goal.clamped-requires
-clamped-requires c =
-    let a = c.args in
-    let f = rw (to_z-of_z c.ranges.from) at c.biased-f.ensures in
-    let t = rw (to_z-of_z c.ranges.to) at c.biased-t.ensures in
-    omega (arith, lt_z_fact a.from a.to c.requires.1)
+clipped : (low high : ℤ) (back ahead : ℕ) (from to : ℤ) (l h : ℕ) → from <ℤ to → from +ℤ pos l ≡ int_max from (int_min (low -ℤ pos back) to)
+    → from +ℤ pos h ≡ int_max from (int_min (high +ℤ pos ahead) to) → ClippedAxis low high back ahead from to l h
+unfolding off_axis
+clipped low high back ahead from to l h s p q = record {
+  within = omega (arith, ints, clamps);
+  law = λ x k.
+      let e : leb l x ≡ le_z (low -ℤ pos back) (from +ℤ pos x) = grind (arith, ints, clamps, nat_tests) in
+      let f : ltb x h ≡ lt_z (from +ℤ pos x) (high +ℤ pos ahead) = grind (arith, ints, clamps, nat_tests) in
+      ap₂ ◌&&◌ e f;
+}
 
 pub returns : goal.returns
-unfolding off_axis
 returns c =
     let a = c.args in
-    let f = rw (to_z-of_z c.ranges.from) at c.biased-f.ensures in
-    let t = rw (to_z-of_z c.ranges.to) at c.biased-t.ensures in
-    let l = rw (to_z-of_z c.ranges.low) at c.biased.ensures in
-    let h = rw (to_z-of_z c.ranges.high) at c.biased-2.ensures in
-    let g = gap_parts a.from a.to c.requires.1 in
-    let p = minus_parts a.low (pos a.back) in
-    let q = add_parts a.high (pos a.ahead) in
-    record {
-      within = omega (arith, c.clamped-2.ensures.within);
-      law = λ x k.
-          let r = add_parts a.from (pos x) in
-          ap₂ ◌&&◌
-          (c.clamped.ensures.low x (omega arith)
-          ∙ leb_le_z (c.biased.result + 256 - a.back) (c.biased-f.result + 256 + x) (a.low -ℤ pos a.back) (a.from +ℤ pos x) (λ j. omega arith) (λ j. omega arith))
-          (c.clamped-2.ensures.high x (omega arith)
-          ∙ ltb_lt_z (c.biased-f.result + 256 + x) (c.biased-2.result + 256 + a.ahead) (a.from +ℤ pos x) (a.high +ℤ pos a.ahead) (λ j. omega arith) (λ j. omega arith));
-    }
+    let l : c.clamp-l.result ≡ int_max a.from (int_min (a.low -ℤ pos a.back) a.to) = omega (arith, ints, clamps, c.clamp-l.ensures.value) in
+    let h : c.clamp-h.result ≡ int_max a.from (int_min (a.high +ℤ pos a.ahead) a.to) = omega (arith, ints, clamps, c.clamp-h.ensures.value) in
+    clipped a.low a.high a.back a.ahead a.from a.to _ _ c.requires (omega (arith, ints) ∙ l) (omega (arith, ints) ∙ h)
