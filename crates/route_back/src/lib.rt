@@ -12,7 +12,7 @@ pub fn count(predecessors: &[u32], start: usize, end: usize) -> usize
     let mut n = 1;
     let mut x = end;
     while x != start {
-        x = base_model::index(predecessors[x]) - 1;
+        x = predecessors[x] as usize - 1;
         n += 1;
     }
     n
@@ -26,11 +26,11 @@ pub fn lay(predecessors: &[u32], start: usize, end: usize, n: usize, route: &mut
     ensures { RouteLaid predecessors.now start end n route.old route.new }
 {
     let mut i = n;
-    let mut x = route_step::narrow(end);
+    let mut x = end as u32;
     while 1 < i {
         i -= 1;
         route[i] = x;
-        x = predecessors[base_model::index(x)] - 1;
+        x = predecessors[x as usize] - 1;
     }
     route[0] = x;
 }
@@ -41,6 +41,6 @@ pub fn wipe(queue: &mut [u32], predecessors: &mut [u32], tail: usize, c: usize)
     ensures queue_after { queue.new ≡ replicate tail 0 ++ drop tail queue.old }
     ensures predecessors_after { predecessors.new ≡ replicate c 0 ++ drop c predecessors.old }
 {
-    base_areas::clear_u32(queue, tail);
-    base_areas::clear_u32(predecessors, c);
+    queue[..tail].fill(0);
+    predecessors[..c].fill(0);
 }

@@ -7,6 +7,8 @@ ghost use Rattle.rule_routes.specs.Routes as routes;
 ghost use Rattle.route_find.specs.Ground.{open_in, Window};
 ghost use Rattle.route_find.specs.Results.{LentAll, RouteFound, SearchRestored};
 
+use route_step::Grid;
+
 #[unsafe(no_mangle)]
 pub extern "C" fn hitrovzen_route(
     map: &[u8],
@@ -26,15 +28,6 @@ pub extern "C" fn hitrovzen_route(
         route.old route.new result }
     ensures search_restored { SearchRestored queue.old predecessors.old queue.new predecessors.new }
 {
-    route_find::route(
-        map,
-        width,
-        height,
-        steps,
-        start,
-        end,
-        queue,
-        predecessors,
-        route,
-    )
+    let grid = Grid { map, width, height };
+    route_find::route(&grid, steps, start, end, queue, predecessors, route).unwrap_or(0)
 }

@@ -3,13 +3,17 @@ use mathlib.Core.Path.{◌≡◌, refl, sym, ap, ◌∙◌, subst}
 use mathlib.Core.Bool.{Bool, true, false, true≢false}
 use mathlib.Core.Logic.{◌⊎◌, inl, inr, ⊎_elim}
 use mathlib.Core.Option.{some}
+use Rattle.std.specs.Prelude.{Option, None, Some}
+use Rattle.std.proofs.lemmas.Option.{same_Some}
+use Rattle.std.specs.Option.{option_eq}
+use lib.Dec.{eqb}
 use mathlib.Core.List.{List, [], ◌∷◌, Memᴰ}
 use Prim.Native.Nat.{ℕ, suc, ◌+◌, ◌-◌, ◌≤◌, ◌<◌}
 use native.Mathlib.Decide.{ℕ_discrete}
 use native.Mathlib.Nat.{sub-zero}
 use native.Mathlib.Numerals.{add-one}
 use native.Mathlib.Omega.{arith}
-use borrow.Author.Tests.{eq-eqb, ne_eqb}
+use borrow.Author.Tests.{eq-eqb, ne_eqb, eqb-true, eqb-false}
 use lib.ListN.{length, get_or, set, length-set}
 use lib.Seq.{get_or-set_same, get_or-set_other, take-suc-set, drop-set-lt, set-set, set-get_or}
 use Rattle.base_laws.specs.Lists.{is_some}
@@ -17,11 +21,27 @@ use Rattle.rule_routes.specs.Routes.{Route, Searched, any_route, discover, sweep
 use Rattle.rule_routes.proofs.SearchLaws.{search_stop, search_next, search_done}
 use Rattle.route_step.specs.Areas.{Area, tried, marks}
 use Rattle.route_back.specs.Ways.{Traced, Traced·home}
-use Rattle.route_find.specs.Results.{SearchLent, StopsAt, SearchLeft, SearchFound}
+use Rattle.route_find.specs.Results.{SearchLent, StopsAt, SearchLeft, SearchFound, ends_at}
 use Rattle.route_step.proofs.Marks.{marks_more, marks_zero, tail_le, tried_tail}
 use Rattle.route_find.proofs.Turns.{On, mem_at}
 use Rattle.route_find.proofs.Clears.{clear_room, clear_at}
 use Rattle.route_find.proofs.Simulation.{ends, Sim, sim_node, sim_tried}
+
+-- whether a search ends at a node
+ends_yes : (end : Option ℕ) (v : ℕ) → end ≡ Some v → ends_at end v ≡ true
+ends_yes end v e = rw (e, eq-eqb v v refl)
+
+ends_not : (end : Option ℕ) (v : ℕ) → (end ≡ Some v → ⊥) → ends_at end v ≡ false
+ends_not None v n = refl
+ends_not (Some e) v n = ne_eqb v e (λ q. n (ap (λ (k : ℕ). Some k) (sym q)))
+
+-- the test of an end, as the code writes it
+pub end_met : (end : Option ℕ) (v : ℕ) → option_eq eqb end (Some v) ≡ true → end ≡ Some v
+end_met None v e = absurd (true≢false (sym e))
+end_met (Some k) v e = ap (λ (n : ℕ). Some n) (eqb-true k v e)
+
+pub end_missed : (end : Option ℕ) (v : ℕ) → option_eq eqb end (Some v) ≡ false → end ≡ Some v → ⊥
+end_missed end v e q = eqb-false v v (rw q at e) refl
 
 abbrev first : ℕ → Route
 first start = record { at = start; back = [] }
@@ -84,7 +104,7 @@ module _ (c start : ℕ) (queue predecessors : List ℕ) (lent : SearchLent c st
       other v (yes e) = inl (first start, mathlib.Core.List.Memᴰ.head refl, e)
       other v (no e) = inr (get_or-set_other predecessors start v (suc start) 0 e)
 
-  module _ (end : ℕ) (nbrs : ℕ → List ℕ) where
+  module _ (end : Option ℕ) (nbrs : ℕ → List ℕ) where
     abbrev whole : (ℕ → Bool) → Searched
     whole stops = sweep nbrs stops c 0 (first start ∷ [])
 
@@ -133,7 +153,7 @@ module _ (c start : ℕ) (queue predecessors : List ℕ) (lent : SearchLent c st
         pub node_below : u < c
         node_below = rw node (s.sim.below r member)
 
-        pub searching_stop : u ≡ end → (stops : ℕ → Bool) → StopsAt c end stops → SearchFound (whole stops) a.queue a.predecessors start end true a.tail
+        pub searching_stop : end ≡ Some u → (stops : ℕ → Bool) → StopsAt c end stops → SearchFound (whole stops) a.queue a.predecessors start end true a.tail
         unfolding r is_some
         searching_stop e stops t =
             subst (λ (x : Searched). SearchFound x a.queue a.predecessors start end true a.tail) ends_here
@@ -141,27 +161,27 @@ module _ (c start : ℕ) (queue predecessors : List ℕ) (lent : SearchLent c st
               count = sym s.sim.count;
               nodes = s.sim.nodes;
               ended = refl;
-              way = λ q. (
+              way = λ k q h. (
                 record {
                   back = r.back;
                   traced =
-                      subst (λ (n : ℕ). Traced a.predecessors start n r.back) at_end (s.sim.traced r member);
+                      subst (λ (n : ℕ). Traced a.predecessors start n r.back) (at_end k q) (s.sim.traced r member);
                   fits = let k =
                       s.sim.short r member in let n = s.sim.count in omega arith;
                 },
-                ap (λ (n : ℕ). some (record { at = n; back = r.back })) at_end,
+                ap (λ (n : ℕ). some (record { at = n; back = r.back })) (at_end k q),
               );
             })
           where
-            at_end : r.at ≡ end
-            at_end = sym node ∙ e
+            at_end : (k : ℕ) → end ≡ Some k → r.at ≡ k
+            at_end k q = sym node ∙ same_Some u k (sym e ∙ q)
 
             ends_here : ◌≡◌ {A = Searched} (record { hit = some r; found = s.found }) (whole stops)
             ends_here =
-                sym (search_stop nbrs stops (c - suc head) head s.found in_found (t r.at (s.sim.below r member) ∙ eq-eqb r.at end at_end))
+                sym (search_stop nbrs stops (c - suc head) head s.found in_found (t r.at (s.sim.below r member) ∙ ends_yes end r.at (e ∙ ap (λ (n : ℕ). Some n) node)))
                 ∙ ap (λ (n : ℕ). sweep nbrs stops n head s.found) (sym turns) ∙ s.same stops t
 
-        pub searching_next : ((v : ℕ) → Memᴰ v (nbrs u) → v < c) → (u ≡ end → ⊥) → (b : Area) → b ≡ tried u (nbrs u) a → Searching b (head + 1)
+        pub searching_next : ((v : ℕ) → Memᴰ v (nbrs u) → v < c) → (end ≡ Some u → ⊥) → (b : Area) → b ≡ tried u (nbrs u) a → Searching b (head + 1)
         unfolding r
         searching_next below ne b e =
             record {
@@ -170,7 +190,7 @@ module _ (c start : ℕ) (queue predecessors : List ℕ) (lent : SearchLent c st
               ahead = let m = tried_tail u (nbrs u) a in let q = ap (λ (x : Area). x.tail) e in omega arith;
               same = λ stops t.
                   rw (add-one head)
-                  (sym (search_next nbrs stops (c - suc head) head s.found in_found (t r.at (s.sim.below r member) ∙ ne_eqb r.at end (λ q. ne (node ∙ q))))
+                  (sym (search_next nbrs stops (c - suc head) head s.found in_found (t r.at (s.sim.below r member) ∙ ends_not end r.at (λ q. ne (q ∙ ap (λ (n : ℕ). Some n) (sym node)))))
                   ∙ ap (λ (n : ℕ). sweep nbrs stops n head s.found) (sym turns) ∙ s.same stops t);
             }
           where
@@ -182,10 +202,10 @@ module _ (c start : ℕ) (queue predecessors : List ℕ) (lent : SearchLent c st
       searching_done h stops t =
           subst (λ (x : Searched). SearchFound x a.queue a.predecessors start end false a.tail)
           (sym (search_done nbrs stops (c - head) head s.found (let n = s.sim.count in omega arith)) ∙ s.same stops t)
-          (record { count = sym s.sim.count; nodes = s.sim.nodes; ended = refl; way = λ q. absurd (true≢false (sym q)) })
+          (record { count = sym s.sim.count; nodes = s.sim.nodes; ended = refl; way = λ k q h. absurd (true≢false (sym h)) })
 
 -- The loop begins where the start is already entered: the areas before that are its areas with those two entries zero.
-module _ (c start end : ℕ) (nbrs : ℕ → List ℕ) where
+module _ (c start : ℕ) (end : Option ℕ) (nbrs : ℕ → List ℕ) where
   pub record Looping (queue predecessors : List ℕ) (a : Area) (head : ℕ) : Type 0 where
     pub lent : SearchLent c start queue predecessors
     pub searching : Searching c start queue predecessors lent end nbrs a head

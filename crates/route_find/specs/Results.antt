@@ -1,5 +1,6 @@
 -- What a search is lent and gives.
-use Rattle.std.specs.Prelude.{◌≡◌, Bool, true, ◌⊎◌, ℕ, ◌≤◌, ◌<◌, eqb, ltb, length, get_or, take, drop, replicate}
+use Rattle.std.specs.Prelude.{◌≡◌, Bool, true, false, None, Some, Result, Ok, Err, ◌⊎◌, ℕ, ◌≤◌, ◌<◌, eqb, ltb, length, get_or, take, drop, replicate}
+use Rattle.std.specs.Prelude as std
 use Rattle.std.proofs.Math.Option.{Option, none, some}
 use mathlib.Core.List.{List, ◌++◌, map, Memᴰ}
 use Rattle.base_laws.specs.Lists.{is_some}
@@ -22,9 +23,19 @@ pub record LentAll (c start end : ℕ) (queue predecessors route : List ℕ) : T
   pub end_below : end < c
   pub route_room : c ≤ length route
 
--- the test stops at the node `end` alone, as far as the c nodes go: it stops nowhere if `end` is none of them
-abbrev pub StopsAt : (c end : ℕ) → (ℕ → Bool) → Type 0
-StopsAt c end stops = (v : ℕ) → v < c → stops v ≡ eqb v end
+-- whether the node v is where a search ends
+abbrev pub ends_at : std.Option ℕ → ℕ → Bool
+ends_at None v = false
+ends_at (Some end) v = eqb v end
+
+-- the test stops at the node `end` alone, as far as the c nodes go, and nowhere if there is no end
+abbrev pub StopsAt : (c : ℕ) → std.Option ℕ → (ℕ → Bool) → Type 0
+StopsAt c end stops = (v : ℕ) → v < c → stops v ≡ ends_at end v
+
+-- the number of centres that a search reached
+abbrev pub tail_of : Result ℕ ℕ → ℕ
+tail_of (Ok tail) = tail
+tail_of (Err tail) = tail
 
 -- the first nodes of the queue are those reached, and the areas are as before at every other entry
 pub record SearchLeft (c tail : ℕ) (queue predecessors queue' predecessors' : List ℕ) : Type 0 where
@@ -35,11 +46,11 @@ pub record SearchLeft (c tail : ℕ) (queue predecessors queue' predecessors' : 
 
 -- The search came to s: so many nodes are reached, they stand in the queue in order of discovery, and if it hit the end the predecessors lead back along
 -- the route.
-pub record SearchFound (s : Searched) (queue predecessors : List ℕ) (start end : ℕ) (hit : Bool) (tail : ℕ) : Type 0 where
+pub record SearchFound (s : Searched) (queue predecessors : List ℕ) (start : ℕ) (end : std.Option ℕ) (hit : Bool) (tail : ℕ) : Type 0 where
   pub count : tail ≡ length s.found
   pub nodes : take tail queue ≡ map (λ (r : Route). r.at) s.found
   pub ended : hit ≡ is_some s.hit
-  pub way : hit ≡ true → (l : Leads predecessors start end tail) × (s.hit ≡ some (record { at = end; back = l.back }))
+  pub way : (e : ℕ) → end ≡ Some e → hit ≡ true → (l : Leads predecessors start e tail) × (s.hit ≡ some (record { at = e; back = l.back }))
 
 -- the number of points of a route, 0 where there is none
 unfoldable pub point_count : Option (List ℕ) → ℕ
@@ -56,6 +67,17 @@ pub record RouteFound (o : Option (List ℕ)) (route route' : List ℕ) (r : ℕ
   pub count : r ≡ point_count o
   pub points : route' ≡ laid_into o route
   pub exists : is_some o ≡ ltb 0 r
+
+-- the number of a route's points, and none where there is no route
+unfoldable pub counted : Option (List ℕ) → std.Option ℕ
+counted none = None
+counted (some p) = Some (length p)
+
+-- the answer is the number of points, none exactly when there is no route and else above 0, and the route stands in the area
+pub record Routed (o : Option (List ℕ)) (route route' : List ℕ) (r : std.Option ℕ) : Type 0 where
+  pub count : r ≡ counted o
+  pub points : route' ≡ laid_into o route
+  pub some : r ≡ Some 0 → ⊥
 
 -- the areas are as they were
 pub record SearchRestored (queue predecessors queue' predecessors' : List ℕ) : Type 0 where

@@ -1,5 +1,5 @@
 -- The ground that a map gives to a search, and where the steps of a table lead on it.
-use Rattle.std.specs.Prelude.{◌≡◌, Bool, false, ◌&&◌, List, map, ℕ, ◌-◌, ◌*◌, ◌≤◌, ◌<◌, ◌^◌, eqb, ℤ, pos, ◌+ℤ◌, length, get_or}
+use Rattle.std.specs.Prelude.{◌≡◌, Bool, false, ◌&&◌, Option, None, Some, List, map, ℕ, ◌*◌, ◌≤◌, ◌<◌, ◌^◌, eqb, ℤ, pos, ◌+ℤ◌, length, get_or}
 use Rattle.std.specs.Int.Signed.{le_z, lt_z}
 use Rattle.base_laws.specs.Lists.{all_of, select}
 use Rattle.rule_routes.specs.Edges.{Edge, Step, edges_from}
@@ -19,8 +19,7 @@ leads cells width height x y steps =
     map (λ (e : Edge). e.target)
     (select (λ (e : Edge). open_in cells e.target && all_of (open_in cells) e.sides) (edges_from width height x y steps))
 
--- one more than the place to which a step goes along one axis, and 0 where that is not below the limit
-pub record Moved (at : ℕ) (by : ℤ) (limit r : ℕ) : Type 0 where
-  pub out : r ≡ 0 → le_z (pos 0) (pos at +ℤ by) && lt_z (pos at +ℤ by) (pos limit) ≡ false
-  pub to : (r ≡ 0 → ⊥) → pos at +ℤ by ≡ pos (r - 1)
-  pub within : r ≤ limit
+-- the place to which a step goes along one axis, and none where that is not below the limit
+abbrev pub Moved : (at : ℕ) (by : ℤ) (limit : ℕ) → Option ℕ → Type 0
+Moved at by limit None = le_z (pos 0) (pos at +ℤ by) && lt_z (pos at +ℤ by) (pos limit) ≡ false
+Moved at by limit (Some to) = (pos at +ℤ by ≡ pos to) × (to < limit)

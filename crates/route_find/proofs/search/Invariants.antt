@@ -10,8 +10,9 @@ use Rattle.route_find.proofs.search.Given as goal
 
 abbrev pub invariant-loop-head : goal.invariant-loop-head
 invariant-loop-head l =
-    Looping (l.width * l.height) l.start l.end (neighbours (window_edges l.width l.height (steps_of l.steps)) (open_in l.map)) (set l.initial.queue 0 0) (set l.initial.predecessors l.start 0)
+    Looping (l.grid.width * l.grid.height) l.start l.end (neighbours (window_edges l.grid.width l.grid.height (steps_of l.steps)) (open_in l.grid.map.now))
+    (set l.initial.queue 0 0) (set l.initial.predecessors l.start 0)
     (record { queue = l.queue; predecessors = l.predecessors; tail = l.tail }) l.head
 
 abbrev pub decreases-loop-head : goal.decreases-loop-head
-decreases-loop-head l = l.width * l.height - l.head
+decreases-loop-head l = l.grid.width * l.grid.height - l.head

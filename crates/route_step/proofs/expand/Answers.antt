@@ -14,7 +14,6 @@ loop-k-init c = expanding_begin _ _ _ _ _ _ _ _ c.requires.search_room
 
 pub enter-t-requires : goal.enter-t-requires
 enter-t-requires c = record {
-  window = c.requires.window;
   x_lt_width =
       (column_below _ _ _ c.requires.u_bound, row_below _ _ _ c.requires.u_bound);
   u_bound = c.requires.u_bound;

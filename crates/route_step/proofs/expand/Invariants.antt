@@ -7,7 +7,8 @@ use Rattle.route_step.proofs.expand.Given as goal
 
 abbrev pub invariant-loop-k : goal.invariant-loop-k
 invariant-loop-k l =
-    Expanding l.map l.width l.height l.steps l.u (pos (l.u % l.width)) (pos (l.u / l.width)) (record { queue = l.initial.queue; predecessors = l.initial.predecessors; tail = l.tail })
+    Expanding l.grid.map.now l.grid.width l.grid.height l.steps l.u (pos (l.u % l.grid.width)) (pos (l.u / l.grid.width))
+    (record { queue = l.initial.queue; predecessors = l.initial.predecessors; tail = l.tail })
     (record { queue = l.queue; predecessors = l.predecessors; tail = l.t }) l.k
 
 abbrev pub decreases-loop-k : goal.decreases-loop-k
