@@ -83,6 +83,18 @@ impl Store<'_> {
             points: self.points.len(),
         }
     }
+
+    // The areas as they stand, only to be read.
+    pub fn kept(&self) -> Kept<'_>
+        ensures { kept_in result ≡ store_of_areas self.now }
+    {
+        Kept {
+            lists: self.lists,
+            visited: self.visited,
+            layouts: self.layouts,
+            points: self.points,
+        }
+    }
 }
 
 impl Kept<'_> {
