@@ -5,53 +5,36 @@ ghost use Rattle.std.specs.Prelude.{◌≡◌, true, length};
 ghost use Rattle.ground_rects.specs.Windows.{window_fits};
 ghost use Rattle.rule_layouts.specs.Inputs.{Inputs};
 ghost use Rattle.rule_search.specs.Frames.{begun};
-ghost use Rattle.rule_calls.specs.Areas.{work_in, store_in, work_fits, cleared, store_of};
+ghost use Rattle.rule_calls.specs.Areas.{work_fits, cleared, store_of};
+ghost use Rattle.call_lengths.specs.Lent.{work_of, store_of_areas};
 ghost use Rattle.call_clear.specs.Room.{StoreRoom};
 
-use base_model::{Limits, Query, ROW, Rect, SLOTS, index};
+use base_model::{Limits, Query, ROW, Rect, SLOTS};
+use call_lengths::{Store, Work};
 
 // Clears the working areas up to their lengths.
-pub fn clear_work(
-    window: Rect,
-    counts: &mut [i32],
-    map: &mut [u8],
-    queue: &mut [u32],
-    predecessors: &mut [u32],
-    route: &mut [u32],
-)
-    requires { (window_fits 8192 8192 window ≡ true)
-        × (work_fits window (work_in counts.old map.old queue.old predecessors.old route.old) ≡ true) }
-    ensures { work_in counts.new map.new queue.new predecessors.new route.new
-        ≡ cleared window (work_in counts.old map.old queue.old predecessors.old
-        route.old) }
+#[tactic(auto, using(crate::proofs::Cleared::cleared_laid), unfolding(rule_calls::specs::Areas::work_fits))]
+pub fn clear_work(window: Rect, work: &mut Work<'_>)
+    requires { (window_fits 8192 8192 window ≡ true) × (work_fits window (work_of work.old) ≡ true) }
+    ensures { work_of work.new ≡ cleared window (work_of work.old) }
 {
-    let width = ground_rects::width(window);
-    let height = ground_rects::height(window);
-    let c = width * height;
-    base_areas::clear_i32(counts, (width + 1) * (height + 1));
-    base_areas::clear_bytes(map, c);
-    base_areas::clear_u32(queue, c);
-    base_areas::clear_u32(predecessors, c);
-    base_areas::clear_u32(route, c);
+    let c = call_lengths::centres(window);
+    base_areas::clear(work.counts, call_lengths::counts_length(window), 0);
+    base_areas::clear(work.map, c, 0);
+    base_areas::clear(work.queue, c, 0);
+    base_areas::clear(work.predecessors, c, 0);
+    base_areas::clear(work.route, c, 0);
 }
 
 // Clears the areas that hold a search up to their lengths, as a search that has begun leaves them.
-pub fn clear_store(
-    query: Query,
-    limits: Limits,
-    places: usize,
-    lists: &mut [u16],
-    visited: &mut [u16],
-    layouts: &mut [u16],
-    points: &mut [u32],
-)
-    requires { StoreRoom query limits places lists.old visited.old layouts.old points.old }
+#[tactic(auto, using(crate::proofs::Cleared::begun_laid))]
+pub fn clear_store(query: Query, limits: Limits, places: usize, store: &mut Store<'_>)
+    requires { StoreRoom query limits places store.old.lists.now store.old.visited.now store.old.layouts.now store.old.points.now }
     ensures { (i : Inputs) → i.query ≡ query → length i.places ≡ places
-        → store_in lists.new visited.new layouts.new points.new
-        ≡ store_of i limits begun (store_in lists.old visited.old layouts.old points.old) }
+        → store_of_areas store.new ≡ store_of i limits begun (store_of_areas store.old) }
 {
-    base_areas::clear_u16(lists, SLOTS * places);
-    base_areas::clear_u16(visited, ROW * index(limits.states));
-    base_areas::clear_u16(layouts, ROW * index(limits.results));
-    base_areas::clear_u32(points, call_lengths::points_length(query, limits));
+    base_areas::clear(store.lists, SLOTS * places, 0);
+    base_areas::clear(store.visited, ROW * limits.states as usize, 0);
+    base_areas::clear(store.layouts, ROW * limits.results as usize, 0);
+    base_areas::clear(store.points, call_lengths::points_length(query, limits), 0);
 }

@@ -59,6 +59,7 @@ pub struct StoreLengths {
 }
 
 impl Work<'_> {
+    // Their lengths.
     pub fn lengths(&self) -> WorkLengths
         ensures { WorkHas (work_of self.now) result }
     {
@@ -73,6 +74,7 @@ impl Work<'_> {
 }
 
 impl Store<'_> {
+    // Their lengths.
     pub fn lengths(&self) -> StoreLengths
         ensures { StoreHas (store_of_areas self.now) result }
     {
@@ -98,6 +100,7 @@ impl Store<'_> {
 }
 
 impl Kept<'_> {
+    // Their lengths.
     pub fn lengths(&self) -> StoreLengths
         ensures { StoreHas (kept_in self.now) result }
     {
