@@ -6,11 +6,7 @@ use native.Mathlib.Omega.{arith}
 use native.Mathlib.Numerals.{add-one}
 use lib.ListN.{length, length-append}
 use Rattle.base_laws.specs.Lists.{below, span, flat}
-use Rattle.text_forms.specs.Forms.{Form}
 use Rattle.text_forms.specs.Writing.{Put}
-use Rattle.text_write.specs.Writing.{Writes, WrittenBy}
-use Rattle.text_write.specs.declared.Written.{Written}
-use Rattle.text_write.specs.declared.Written.TheVariants.{At, NoRoom, Values}
 use Rattle.text_forms.proofs.Puts.{put_then, put_length}
 
 -- of the text t, the part v is left
@@ -104,20 +100,6 @@ module _ (t : List ℕ) (f : ℕ → List ℕ) (n : ℕ) (before : List ℕ) (at
 
   pub turns_done : n ≤ k → Put t before at out i
   turns_done le = left_done t before at out i (left_as t (rest f n k) [] before at out i (rest_none f n k le) h.left)
-
--- ---- a writer's answer, where the value is in range and has room
-module _ {A : Type 0} (f : Form A) (a : A) (before : List ℕ) (at : ℕ) (out : List ℕ) where
-  by : (r r' : Written) → r ≡ r' → Writes f a before at out r → WrittenBy f a before at out r'
-  by r r' e h = subst (λ (x : Written). WrittenBy f a before at out x) e h.answer
-
-  pub answer_at : (r : Written) (n : ℕ) → r ≡ At n → Writes f a before at out r → Put (f.spell a) before at out n
-  answer_at r n e h = (by r (At n) e h).put
-
-  pub answer_room : (r : Written) → r ≡ NoRoom → at + length (f.spell a) ≤ length before → Writes f a before at out r → ⊥
-  answer_room r e room h = let w : length before < at + length (f.spell a) = (by r NoRoom e h).long in omega arith
-
-  pub answer_values : (r : Written) → r ≡ Values → f.fits a → Writes f a before at out r → ⊥
-  answer_values r e fits h = (by r Values e h).wrong fits
 
 -- room for a text in other words
 pub room_as : (v w : List ℕ) (at n : ℕ) → v ≡ w → at + length v ≤ n → at + length w ≤ n

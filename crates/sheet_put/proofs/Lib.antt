@@ -1,2 +1,3 @@
 pub mod Left
 pub mod Lines
+pub mod Spaced

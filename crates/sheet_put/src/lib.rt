@@ -10,31 +10,26 @@ ghost use Rattle.text_forms.specs.Writing.{Put};
 ghost use Rattle.sheet_texts.specs.Texts.{spaced, point_text, layout_text};
 ghost use Rattle.sheet_texts.specs.Parts.{gap};
 
-use text_write::Written;
-
 // Writes a line that has room.
 pub fn put(out: &mut [u8], at: usize, pattern: &[u8], values: &[u32]) -> usize
     requires fact { (line pattern.now).fits values.now }
     requires values_in_bounds { at + length ((line pattern.now).spell values.now) ≤ length out.old }
     ensures { Put ((line pattern.now).spell values.now) out.old at out.new result }
 {
-    match text_write::put_line(out, at, pattern, values) {
-        Written::At(n) => n,
-        Written::NoRoom => at,
-        Written::Values => at,
-    }
+    text_write::put_line(out, at, pattern, values).unwrap()
 }
 
-// Writes member k of a row, with a space before all but the first.
-fn put_member(out: &mut [u8], at: usize, k: usize, member: u32) -> usize
-    requires { at + length (gap k (decimal member)) ≤ length out.old }
-    ensures { Put (gap k (decimal member)) out.old at out.new result }
+// Writes line k of a row of them, with a space before all but the first.
+fn put_spaced(out: &mut [u8], at: usize, k: usize, pattern: &[u8], values: &[u32]) -> usize
+    requires fact { (line pattern.now).fits values.now }
+    requires values_in_bounds { at + length (gap k ((line pattern.now).spell values.now)) ≤ length out.old }
+    ensures { Put (gap k ((line pattern.now).spell values.now)) out.old at out.new result }
 {
-    let values = [member];
     if k == 0 {
-        return put(out, at, b"$", &values);
+        return put(out, at, pattern, values);
     }
-    put(out, at, b" $", &values)
+    let i = put(out, at, b" ", &[]);
+    put(out, i, pattern, values)
 }
 
 // Writes the members of a row.
@@ -43,24 +38,10 @@ fn put_members(out: &mut [u8], at: usize, row: &[u16]) -> usize
     ensures { Put (spaced (map decimal row.now)) out.old at out.new result }
 {
     let mut i = at;
-    let mut k = 0;
-    while k < row.len() {
-        i = put_member(out, i, k, row[k] as u32);
-        k = k + 1;
+    for (k, &member) in row.iter().enumerate() {
+        i = put_spaced(out, i, k, b"$", &[member as u32]);
     }
     i
-}
-
-// Writes point k of a route, with a space before all but the first.
-fn put_point(out: &mut [u8], at: usize, k: usize, x: u32, y: u32) -> usize
-    requires { at + length (gap k (point_text (record { x = x; y = y }))) ≤ length out.old }
-    ensures { Put (gap k (point_text (record { x = x; y = y }))) out.old at out.new result }
-{
-    let values = [x, y];
-    if k == 0 {
-        return put(out, at, b"($ $)", &values);
-    }
-    put(out, at, b" ($ $)", &values)
 }
 
 // Writes the points of a route of n points.
@@ -70,10 +51,8 @@ fn put_points(out: &mut [u8], at: usize, n: usize, route: &[u32]) -> usize
     ensures { Put (spaced (map point_text (positions route.now))) out.old at out.new result }
 {
     let mut i = at;
-    let mut k = 0;
-    while k < n {
-        i = put_point(out, i, k, route[2 * k], route[2 * k + 1]);
-        k = k + 1;
+    for k in 0..n {
+        i = put_spaced(out, i, k, b"($ $)", &[route[2 * k], route[2 * k + 1]]);
     }
     i
 }
@@ -85,8 +64,7 @@ pub fn put_layout(out: &mut [u8], at: usize, k: u32, row: &[u16], n: usize, rout
     ensures { Put (layout_text k row.now (positions route.now))
         out.old at out.new result }
 {
-    let number = [k];
-    let a = put(out, at, b"(layout $ (", &number);
+    let a = put(out, at, b"(layout $ (", &[k]);
     let b = put_members(out, a, row);
     let c = put(out, b, b") (", &[]);
     let d = put_points(out, c, n, route);

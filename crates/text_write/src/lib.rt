@@ -7,11 +7,9 @@ ghost use Rattle.text_forms.specs.Writing.{Put};
 ghost use Rattle.text_write.specs.Writing.{Writes};
 ghost use Rattle.text_write.specs.Inner.{Decides};
 
-// The answer of `put_line`: the place after the line; or, with nothing written, that it has no room or that the values are not those of
-// such a line.
-#[derive(Clone, Copy)]
-pub enum Written {
-    At(usize),
+// Why `put_line` wrote nothing: the line has no room, or the values are not those of such a line.
+#[derive(Clone, Copy, PartialEq, Eq, Debug)]
+pub enum Unwritten {
     NoRoom,
     Values,
 }
@@ -21,33 +19,26 @@ fn in_field(c: u8, x: u32) -> bool
     requires { is_number (piece c) ≡ true }
     ensures { Decides ((form_of (piece c)).fits x) result }
 {
-    if c == b'#' {
-        return true;
-    }
-    x <= text_marks::limit(c)
+    c == b'#' || x <= text_marks::limit(c)
 }
 
 // Whether the values are those of a line, all of them.
 fn in_line(pattern: &[u8], values: &[u32]) -> bool
     ensures { Decides ((line pattern.now).fits values.now) result }
 {
-    let mut j = 0;
-    let mut k = 0;
-    while j < pattern.len() {
-        let c = pattern[j];
-        j = j + 1;
+    let mut rest = values;
+    for &c in pattern {
         if text_marks::is_number(c) {
-            if k == values.len() {
+            let [x, after @ ..] = rest else {
+                return false;
+            };
+            if !in_field(c, *x) {
                 return false;
             }
-            if !in_field(c, values[k]) {
-                return false;
-            }
-            k = k + 1;
-            continue;
+            rest = after;
         }
     }
-    k == values.len()
+    rest.is_empty()
 }
 
 // Whether a line has room in what is left.
@@ -56,62 +47,62 @@ fn line_room(left: usize, pattern: &[u8], values: &[u32]) -> bool
     ensures { result ≡ leb (length ((line pattern.now).spell values.now)) left }
 {
     let mut more = left;
-    let mut j = 0;
-    let mut k = 0;
-    while j < pattern.len() {
-        let c = pattern[j];
-        j = j + 1;
+    let mut rest = values;
+    for &c in pattern {
+        let mut n = 1;
         if text_marks::is_number(c) {
-            let n = text_fields::field_count(c, values[k]);
-            if more < n {
-                return false;
-            }
-            more = more - n;
-            k = k + 1;
-            continue;
+            let [x, after @ ..] = rest else {
+                unreachable!()
+            };
+            n = text_fields::field_count(c, *x);
+            rest = after;
         }
-        if more == 0 {
+        if more < n {
             return false;
         }
-        more = more - 1;
+        more -= n;
     }
     true
 }
 
+#[tactic(auto, using(crate::proofs::Lines::laid_room))]
 fn line_put(out: &mut [u8], at: usize, pattern: &[u8], values: &[u32]) -> usize
     requires values_len { length values.now ≡ fields pattern.now }
     requires values_in_bounds { at + length ((line pattern.now).spell values.now) ≤ length out.old }
     ensures { Put ((line pattern.now).spell values.now) out.old at out.new result }
 {
     let mut i = at;
-    let mut j = 0;
-    let mut k = 0;
-    while j < pattern.len() {
-        let c = pattern[j];
-        j = j + 1;
+    let mut rest = values;
+    for &c in pattern {
         if text_marks::is_number(c) {
-            i = text_fields::field_put(out, i, c, values[k]);
-            k = k + 1;
-            continue;
+            let [x, after @ ..] = rest else {
+                unreachable!()
+            };
+            i = text_fields::field_put(out, i, c, *x);
+            rest = after;
+        } else {
+            out[i] = c;
+            i += 1;
         }
-        out[i] = c;
-        i = i + 1;
     }
     i
 }
 
 // Writes a line by its pattern.
-pub fn put_line(out: &mut [u8], at: usize, pattern: &[u8], values: &[u32]) -> Written
+#[tactic(auto, using(text_forms::proofs::Pieces::line_count))]
+pub fn put_line(
+    out: &mut [u8],
+    at: usize,
+    pattern: &[u8],
+    values: &[u32],
+) -> Result<usize, Unwritten>
     ensures { Writes (line pattern.now) values.now out.old at out.new result }
 {
     if !in_line(pattern, values) {
-        return Written::Values;
+        return Err(Unwritten::Values);
     }
-    if out.len() < at {
-        return Written::NoRoom;
+    if out.len() < at || !line_room(out.len() - at, pattern, values) {
+        return Err(Unwritten::NoRoom);
     }
-    if !line_room(out.len() - at, pattern, values) {
-        return Written::NoRoom;
-    }
-    Written::At(line_put(out, at, pattern, values))
+    Ok(line_put(out, at, pattern, values))
 }

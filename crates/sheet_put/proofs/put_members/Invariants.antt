@@ -1,5 +1,4 @@
--- `put_members`: the first k members are written. The measure is how many are left.
-use Prim.Native.Nat.{◌-◌}
+-- `put_members`: the first k members are written.
 use mathlib.Core.List.{map}
 use lib.ListN.{length}
 use Rattle.text_forms.specs.Forms.{decimal}
@@ -10,6 +9,3 @@ use Rattle.sheet_put.proofs.put_members.Given as goal
 
 abbrev pub invariant-loop-k : goal.invariant-loop-k
 invariant-loop-k l = Reached (spaced (map decimal l.row)) (member_text l.row) (length l.row) l.initial.out l.at l.out l.i l.k
-
-abbrev pub decreases-loop-k : goal.decreases-loop-k
-decreases-loop-k l = length l.row - l.k

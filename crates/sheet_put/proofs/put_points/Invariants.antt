@@ -1,5 +1,4 @@
--- `put_points`: the first k points are written. The measure is how many are left.
-use Prim.Native.Nat.{◌-◌}
+-- `put_points`: the first k points are written.
 use mathlib.Core.List.{map}
 use Rattle.rule_calls.specs.Areas.{positions}
 use Rattle.sheet_texts.specs.Texts.{spaced, point_text}
@@ -9,6 +8,3 @@ use Rattle.sheet_put.proofs.put_points.Given as goal
 
 abbrev pub invariant-loop-k : goal.invariant-loop-k
 invariant-loop-k l = Reached (spaced (map point_text (positions l.route))) (points_text l.route) l.n l.initial.out l.at l.out l.i l.k
-
-abbrev pub decreases-loop-k : goal.decreases-loop-k
-decreases-loop-k l = l.n - l.k

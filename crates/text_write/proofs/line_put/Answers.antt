@@ -1,38 +1,17 @@
--- The answers to the goals of `text_write::line_put`.
+-- `line_put`: after a number or another byte, what is laid down is longer by its spelling.
 use mathlib.Core.Path.{sym, ◌∙◌}
 use native.Mathlib.Omega.{arith}
-use Rattle.text_write.proofs.Lines.{laid_start, laid_value, laid_room, laid_field, laid_inside, laid_byte, laid_done, laid_long}
+use Rattle.std.proofs.lemmas.Grind.{common_steps}
+use Rattle.text_write.proofs.Lines.{laid_some, laid_field, laid_byte}
+use Rattle.text_write.proofs.line_put.Goals.{then-is_number+in-len1-up, else-is_number}
 use Rattle.text_write.proofs.line_put.Goals as goal
 
-pub loop-j-init : goal.loop-j-init
-loop-j-init c =
-    laid_start _ _ _ _ c.requires.values_len c.requires.values_in_bounds
+pub loop-c-preserved : goal.loop-c-preserved
+loop-c-preserved c = elim c.if-is_number.branch [
+  | then-is_number+in-len1-up w ↦ rw (w.out-is, w.i-is, w.rest-is) (laid_field _ _ _ _ _ _ _ _ c.loop-c.invariant (omega arith) (sym c.is_number.ensures ∙ w.if-is_number.true)
+      _ _ (grind (arith, common_steps)) _ _ w.field_put-i.ensures)
+  | else-is_number w ↦ rw (w.out-is, w.i-is, w.rest-is) (laid_byte _ _ _ _ _ _ _ _ c.loop-c.invariant (omega arith) (sym c.is_number.ensures ∙ w.if-is_number.false))
+]
 
-pub offset_bounds-values-k : goal.offset_bounds-values-k
-offset_bounds-values-k c = omega (arith, laid_value _ _ _ _ _ _ _ _ c.loop-j.invariant (omega arith) (sym c.is_number.ensures ∙ c.if-is_number.true))
-
-pub bounds-values-k : goal.bounds-values-k
-bounds-values-k c = laid_value _ _ _ _ _ _ _ _ c.loop-j.invariant (omega arith) (sym c.is_number.ensures ∙ c.if-is_number.true)
-
-pub field_put-i-requires : goal.field_put-i-requires
-field_put-i-requires c = laid_room _ _ _ _ _ _ _ _ c.loop-j.invariant (omega arith) (sym c.is_number.ensures ∙ c.if-is_number.true)
-
-pub overflow_add-k : goal.overflow_add-k
-overflow_add-k c = omega (arith, laid_value _ _ _ _ _ _ _ _ c.loop-j.invariant (omega arith) (sym c.is_number.ensures ∙ c.if-is_number.true))
-
-pub loop-j-preserved-then-is_number : goal.loop-j-preserved-then-is_number
-loop-j-preserved-then-is_number c = laid_field _ _ _ _ _ _ _ _ c.loop-j.invariant (omega arith)
-    (sym c.is_number.ensures ∙ c.if-is_number.true) _ _ c.field_put-i.ensures
-
-pub bounds-out-i : goal.bounds-out-i
-bounds-out-i c = laid_inside _ _ _ _ _ _ _ _ c.loop-j.invariant (omega arith) (sym c.is_number.ensures ∙ c.if-is_number.false)
-
-pub overflow_add-i : goal.overflow_add-i
-overflow_add-i c =
-    omega (arith, laid_inside _ _ _ _ _ _ _ _ c.loop-j.invariant (omega arith) (sym c.is_number.ensures ∙ c.if-is_number.false), laid_long _ _ _ _ _ _ _ _ c.loop-j.invariant)
-
-pub loop-j-preserved : goal.loop-j-preserved
-loop-j-preserved c = laid_byte _ _ _ _ _ _ _ _ c.loop-j.invariant (omega arith) (sym c.is_number.ensures ∙ c.if-is_number.false)
-
-pub returns : goal.returns
-returns c = laid_done _ _ _ _ _ _ _ _ c.loop-j.invariant (omega arith)
+pub unreachable-requires : goal.unreachable-requires
+unreachable-requires c = omega (arith, laid_some _ _ _ _ _ _ _ _ c.loop-c.invariant (omega arith) (sym c.is_number.ensures ∙ c.if-is_number.true))
