@@ -22,10 +22,10 @@ use Rattle.walls_lent.proofs.Cut.{joined, step_cut_is, begin_cut_is, read_cut_is
 module _ (q : Query) (groups block_base allow_base : List ℕ) (rows : Rows) (k : ℕ) (ps : List Placement) (laid : rows ≡ rows_of ps)
     (e : k ≡ min (length ps) 6145)
   where
-    abbrev lent_flat : Inputs
+    abbrev pub lent_flat : Inputs
     lent_flat = inputs_of q groups (take (4 * k) rows.numbers) (take (8 * k) rows.edges) block_base allow_base
 
-    flat_is : given q groups (take 6145 ps) block_base allow_base ≡ lent_flat
+    pub flat_is : given q groups (take 6145 ps) block_base allow_base ≡ lent_flat
     unfolding inputs_of given
     flat_is =
         ap (λ (l : List Placement). given q groups l block_base allow_base)
