@@ -9,12 +9,12 @@ ghost use Rattle.ground_counts.specs.Counts.{bumped, stamp_of, Scan, SumsFit, Sp
 use ground_rects::Span;
 
 // Adds 1 at k, or takes 1 away.
+#[tactic(auto, unfolding(crate::specs::Counts::bumped))]
 fn bump(v: &mut [i32], k: usize, by: i32)
     requires { ((k < length v.old) × (mag (get_or v.old k (pos 0)) < 2147483647)) × ((up by ≤ 1) × (dn by ≤ 1)) }
     ensures { v.new ≡ bumped v.old k by }
 {
-    let x = v[k];
-    v[k] = x + by;
+    v[k] += by;
 }
 
 // Adds to each entry, from the one at d on, the entry d before it.
@@ -22,28 +22,24 @@ fn scan(v: &mut [i32], d: usize, n: usize)
     requires { (0 < d) × ((d ≤ n) × ((n ≤ length v.old) × SumsFit v.old d n)) }
     ensures { Scan v.old d n v.new }
 {
-    let mut i = d;
-    while i < n {
-        let a = v[i];
-        let b = v[i - d];
-        v[i] = a + b;
-        i += 1;
+    for i in d..n {
+        v[i] += v[i - d];
     }
 }
 
 // Adds the corners of a span.
+#[tactic(auto, unfolding(crate::specs::Counts::stamp_of, crate::specs::Counts::live))]
 pub fn add_rect(counts: &mut [i32], stride: usize, p: Span)
     requires { Stampable stride p counts.old }
     ensures { counts.new ≡ stamp_of stride p counts.old }
 {
-    let left = p.left;
-    let top = p.top;
-    let right = p.right;
-    let bottom = p.bottom;
-    if right <= left {
-        return;
-    }
-    if bottom <= top {
+    let Span {
+        left,
+        top,
+        right,
+        bottom,
+    } = p;
+    if right <= left || bottom <= top {
         return;
     }
     let high = top * stride;
