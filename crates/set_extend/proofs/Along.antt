@@ -5,46 +5,40 @@ use mathlib.Core.Bool.{true, false, ◌||◌}
 use mathlib.Core.List.{List, ◌∷◌}
 use native.Mathlib.Numerals.{add-one}
 use native.Mathlib.Omega.{arith}
-use lib.ListN.{length, get_or, take, drop, drop_of_length-le}
-use lib.Seq.{length-take-le, drop-cons, get_or-take}
+use lib.ListN.{length, get_or, drop, drop_of_length-le}
+use lib.Seq.{drop-cons}
 use Rattle.ground_rects.specs.declared.Span.{Span}
 use Rattle.ground_rects.specs.Spans.{in_span}
 use Rattle.set_extend.specs.declared.Spot.{Spot}
 use Rattle.set_extend.specs.Spots.{spot_of}
 use Rattle.set_extend.specs.Touch.{step_in, grazes}
 
-pub record Along (route : List ℕ) (count : ℕ) (s : Span) (width : ℕ) (p : Spot) (i : ℕ) : Type 0 where
-  pub upto : i < count
+pub record Along (route : List ℕ) (s : Span) (width : ℕ) (p : Spot) (i : ℕ) : Type 0 where
+  pub upto : i < length route
   pub own : p ≡ spot_of width (get_or route i 0)
-  pub rest : grazes s width (take count route) ≡ grazes s width (drop i (take count route))
+  pub rest : grazes s width route ≡ grazes s width (drop i route)
 
-module _ (route : List ℕ) (count : ℕ) (fits : count ≤ length route) (s : Span) (width : ℕ) where
-  point : (i : ℕ) → i < count → drop i (take count route) ≡ get_or route i 0 ∷ drop (suc i) (take count route)
-  point i h =
-      drop-cons (take count route) i 0 (omega (arith, length-take-le count route fits))
-      ∙ ap (λ (x : ℕ). x ∷ drop (suc i) (take count route)) (get_or-take count route i 0 h)
+module _ (route : List ℕ) (s : Span) (width : ℕ) (p : Spot) (i : ℕ) (a : Along route s width p i) where
+  -- the step to the next point, and the rest
+  step : (q : Spot) → i + 1 < length route → q ≡ spot_of width (get_or route (i + 1) 0)
+      → grazes s width route ≡ (step_in s p.x p.y q.x q.y || grazes s width (drop (i + 1) route))
+  unfolding grazes spot_of
+  step q h own =
+      a.rest ∙ ap (grazes s width) (drop-cons route i 0 a.upto ∙ ap (λ (l : List ℕ). get_or route i 0 ∷ l) (drop-cons route (suc i) 0 (omega arith)))
+      ∙ rw (a.own, own, add-one i)
+      (ap (λ (l : List ℕ). step_in s (get_or route i 0 % width) (get_or route i 0 / width) (get_or route (suc i) 0 % width)
+      (get_or route (suc i) 0 / width) || grazes s width l) (sym (drop-cons route (suc i) 0 (omega arith))))
 
-  module _ (p : Spot) (i : ℕ) (a : Along route count s width p i) where
-    -- the step to the next point, and the rest
-    step : (q : Spot) → i + 1 < count → q ≡ spot_of width (get_or route (i + 1) 0)
-        → grazes s width (take count route) ≡ (step_in s p.x p.y q.x q.y || grazes s width (drop (i + 1) (take count route)))
-    unfolding grazes spot_of
-    step q h own =
-        a.rest ∙ ap (grazes s width) (point i a.upto ∙ ap (λ (l : List ℕ). get_or route i 0 ∷ l) (point (suc i) (omega arith)))
-        ∙ rw (a.own, own, add-one i)
-        (ap (λ (l : List ℕ). step_in s (get_or route i 0 % width) (get_or route i 0 / width) (get_or route (suc i) 0 % width)
-        (get_or route (suc i) 0 / width) || grazes s width l) (sym (point (suc i) (omega arith))))
+  module _ (q : Spot) (h : i + 1 < length route) (own : q ≡ spot_of width (get_or route (i + 1) 0)) where
+    pub along_hit : step_in s p.x p.y q.x q.y ≡ true → grazes s width route ≡ true
+    along_hit e = step q h own ∙ rw e
 
-    module _ (q : Spot) (h : i + 1 < count) (own : q ≡ spot_of width (get_or route (i + 1) 0)) where
-      pub along_hit : step_in s p.x p.y q.x q.y ≡ true → grazes s width (take count route) ≡ true
-      along_hit e = step q h own ∙ rw e
+    pub along_more : step_in s p.x p.y q.x q.y ≡ false → Along route s width q (i + 1)
+    along_more e = record { upto = h; own = own; rest = step q h own ∙ rw e }
 
-      pub along_more : step_in s p.x p.y q.x q.y ≡ false → Along route count s width q (i + 1)
-      along_more e = record { upto = h; own = own; rest = step q h own ∙ rw e }
-
-    pub along_end : count ≤ i + 1 → grazes s width (take count route) ≡ in_span s p.x p.y
-    unfolding grazes spot_of
-    along_end h =
-        a.rest
-        ∙ ap (grazes s width) (point i a.upto ∙ ap (λ (l : List ℕ). get_or route i 0 ∷ l) (drop_of_length-le (take count route) {i = suc i} (omega (arith, length-take-le count route fits))))
-        ∙ rw a.own
+  pub along_end : length route ≤ i + 1 → grazes s width route ≡ in_span s p.x p.y
+  unfolding grazes spot_of
+  along_end h =
+      a.rest
+      ∙ ap (grazes s width) (drop-cons route i 0 a.upto ∙ ap (λ (l : List ℕ). get_or route i 0 ∷ l) (drop_of_length-le route {i = suc i} (omega arith)))
+      ∙ rw a.own

@@ -9,18 +9,32 @@ use lib.Dec.{eqb, ltb}
 use lib.IntN.{ℤ}
 use lib.ListN.{length, get_or, set, take, drop, length-append, length-set}
 use lib.Seq.{take_all, drop-cons, set_at}
+use Rattle.std.specs.Ordering.{is_lt, nat_cmp}
+use Rattle.std.proofs.lemmas.Grind.{common_steps}
 use Rattle.base_laws.specs.Lists.{any_of, select, below, member}
 use Rattle.base_laws.proofs.Members.{get_d_member}
 use Rattle.base_laws.proofs.Turns.{any_more, any_hit, filter_hit, filter_miss}
 use Rattle.base_laws.proofs.Tests.{below_last}
 use Rattle.rule_layouts.specs.Boards.{Places, used, may_join}
-use Rattle.set_places.specs.Groups.{InRow}
+use Rattle.rule_layouts.specs.Flat.{places_in}
+use Rattle.set_places.specs.Groups.{of_group, taken, InRow, InGroup}
 use Rattle.set_extend.specs.Join.{Rowed, free_slot, ListWritten}
 
 -- ---- the members
 -- the four numbers of each member stand in the row
 pub in_row : {n : ℕ} {groups numbers : List ℕ} {edges : List ℤ} {s : List ℕ} → Rowed n groups numbers edges s → InRow numbers s
 in_row {s = s} r = record { whole = λ j h. omega (arith, r.fours, r.named (get_or s j 0) (get_d_member s j 0 h)) }
+
+lt_order : (a b : ℕ) → is_lt (nat_cmp a b) ≡ ltb a b
+lt_order a b = grind (arith, common_steps)
+
+pub slot_left : (n : ℕ) (groups numbers : List ℕ) (edges : List ℤ) (s : List ℕ) (i : ℕ) → is_lt (taken groups numbers s i) ≡ free_slot (places_in n groups numbers edges) s i
+unfolding free_slot places_in used of_group
+slot_left n groups numbers edges s i = lt_order _ _
+
+-- placement i stands in the row, and is of a group that there is
+pub in_group : {n : ℕ} {groups numbers : List ℕ} {edges : List ℤ} {s : List ℕ} {i : ℕ} → Rowed n groups numbers edges s → i < n → InGroup groups numbers s i
+in_group {i = i} r h = record { members = in_row r; whole = omega (arith, r.fours); grouped = r.grouped i h }
 
 -- no member among the first j bars placement i
 pub record Clear (p : Places) (s : List ℕ) (i j : ℕ) : Type 0 where
@@ -111,11 +125,11 @@ module _ {T : Type 0} (p : Places) (s : List ℕ) (Fine : T → Type 0) (touch :
       so = λ t f. listed_skip (λ (i : ℕ). may_join p s i && touch t i) area area' k i (rw (e t f) (and-false (may_join p s i))) (l.so t f);
     }
 
-    pub look_add : (x : ℕ) → x ≡ i → p.count ≤ length area → may_join p s i ≡ true → ((t : T) → Fine t → touch t i ≡ true)
-        → Looking p s Fine touch area (set area' k x) (k + 1) (i + 1)
-    look_add x q room j e = rw q (record {
+    pub look_add : p.count ≤ length area → may_join p s i ≡ true → ((t : T) → Fine t → touch t i ≡ true)
+        → Looking p s Fine touch area (set area' k i) (k + 1) (i + 1)
+    look_add room j e = record {
       upto = omega arith;
       few = omega (arith, l.few);
       size = length-set area' k i ∙ l.size;
       so = λ t f. listed_add (λ (i : ℕ). may_join p s i && touch t i) area area' k i (rw (j, e t f)) (omega (arith, l.few)) (l.so t f);
-    })
+    }

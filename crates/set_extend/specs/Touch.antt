@@ -1,5 +1,5 @@
 -- When a placement touches a route in a window.
-use Rattle.std.specs.Prelude.{ℕ, ◌/◌, ◌%◌, ◌≤◌, ◌<◌, ◌≡◌, Bool, true, false, not, ◌&&◌, ◌||◌, eqb, leb, ltb, length}
+use Rattle.std.specs.Prelude.{ℕ, ◌/◌, ◌%◌, ◌<◌, ◌≡◌, Bool, true, false, not, ◌&&◌, ◌||◌, eqb, leb, ltb}
 use mathlib.Core.List.{List, [], ◌∷◌, Memᴰ}
 use Rattle.base_laws.specs.Lists.{any_of}
 use Rattle.base_model.specs.declared.Rect.{Rect}
@@ -27,11 +27,10 @@ pub record Trail (w : Rect) (steps : List Step) (r : List ℕ) : Type 0 where
 unfoldable pub touched : Rect → Bounds → Rect → List Step → List ℕ → Bool
 touched collision m w steps r = any_of (λ (c : ℕ). keeps_off collision m (pixel_x w c) (pixel_y w c)) (leans_on (window_edges (width w) (height w) steps) r)
 
--- what is asked of a look at a route of so many points
-pub record Looks (w : Rect) (m : Bounds) (route : List ℕ) (count : ℕ) : Type 0 where
+-- what is asked of a look at a route
+pub record Looks (w : Rect) (m : Bounds) : Type 0 where
   pub some : nonempty w ≡ true
   pub slim : small m ≡ true
-  pub fits : count ≤ length route
 
 -- the span holds the point at column x and row y, or a side of the diagonal step from there to column x' and row y'
 unfoldable pub step_in : Span → (x y x' y' : ℕ) → Bool

@@ -1,17 +1,18 @@
 // Which placements extend a set: those that may join it and touch the route that it leaves.
 #![tactic(auto)]
 
-ghost use Rattle.std.specs.Prelude.{◌≡◌, true, List, ◌≤◌, ◌<◌, length, take};
+ghost use Rattle.std.specs.Prelude.{◌≡◌, true, List, ℕ, ◌≤◌, ◌<◌, length};
 ghost use Rattle.ground_rects.specs.Spans.{in_span};
 ghost use Rattle.rule_routes.specs.Edges.{Step};
-ghost use Rattle.rule_layouts.specs.Flat.{places_in};
+ghost use Rattle.set_places.specs.Groups.{InGroup};
+ghost use Rattle.set_places.specs.Given.{places_at};
 ghost use Rattle.set_extend.specs.Spots.{spot_of, RowStarts};
 ghost use Rattle.set_extend.specs.Touch.{Trail, Looks, touched, step_in, BothOff};
 ghost use Rattle.set_extend.specs.Join.{Rowed, free_slot, extending, ListWritten};
 
-use base_model::{Bounds, Rect, index, member};
+use base_model::{Bounds, Rect};
 use ground_rects::Span;
-use set_places::{collision_at, count_in_group, footprint_at, group_at};
+use set_places::FlatPlaces;
 
 // Where a centre stands: its column, its row, and the centre that its row starts with.
 #[derive(Clone, Copy)]
@@ -28,7 +29,7 @@ fn spot_of(width: usize, v: usize) -> Spot
 {
     let x = v % width;
     Spot {
-        x: x,
+        x,
         y: v / width,
         start: v - x,
     }
@@ -45,12 +46,8 @@ fn spot_above(from: Spot, width: usize, v: usize) -> Spot
         spot.y -= 1;
         spot.start -= width;
     }
-    let column = v - spot.start;
-    Spot {
-        x: column,
-        y: spot.y,
-        start: spot.start,
-    }
+    spot.x = v - spot.start;
+    spot
 }
 
 // Where centre v stands, found from its own row or one above it, row by row downwards.
@@ -65,11 +62,7 @@ fn spot_below(from: Spot, width: usize, v: usize) -> Spot
         x -= width;
         y += 1;
     }
-    Spot {
-        x: x,
-        y: y,
-        start: v - x,
-    }
+    Spot { x, y, start: v - x }
 }
 
 // Where centre v stands, found without dividing from where another stands.
@@ -84,38 +77,22 @@ fn next_spot(from: Spot, width: usize, v: usize) -> Spot
 }
 
 // Whether the span holds column x of row y.
+#[tactic(auto, unfolding(ground_rects::specs::Spans::in_span))]
 fn in_span(span: Span, x: usize, y: usize) -> bool
     ensures { result ≡ in_span span x y }
 {
-    if x < span.left {
-        return false;
-    }
-    if span.right <= x {
-        return false;
-    }
-    if y < span.top {
-        return false;
-    }
-    y < span.bottom
+    (span.left..span.right).contains(&x) && (span.top..span.bottom).contains(&y)
 }
 
-// Whether the span holds the point at column x and row y, or a side of the diagonal step to column nx and row ny.
-fn step_in(span: Span, x: usize, y: usize, nx: usize, ny: usize) -> bool
-    ensures { result ≡ step_in span x y nx ny }
+// Whether the span holds the spot `from`, or a side of the diagonal step from it to the spot `to`.
+#[tactic(auto, unfolding(crate::specs::Touch::step_in))]
+fn step_in(span: Span, from: Spot, to: Spot) -> bool
+    ensures { result ≡ step_in span from.x from.y to.x to.y }
 {
-    if in_span(span, x, y) {
-        return true;
-    }
-    if x == nx {
-        return false;
-    }
-    if y == ny {
-        return false;
-    }
-    if in_span(span, nx, y) {
-        return true;
-    }
-    in_span(span, x, ny)
+    in_span(span, from.x, from.y)
+        || from.x != to.x
+            && from.y != to.y
+            && (in_span(span, to.x, from.y) || in_span(span, from.x, to.y))
 }
 
 // Whether both numbers lie before `low`, or both at `high` or after it. A yes means that neither is one of those between; a no means
@@ -124,50 +101,45 @@ fn both_off(low: usize, high: usize, a: usize, b: usize) -> bool
     ensures { result ≡ true → BothOff low high a b }
 {
     if a < low {
-        return b < low;
+        b < low
+    } else {
+        high <= a && high <= b
     }
-    if a < high {
-        return false;
-    }
-    high <= b
 }
 
 // The same as `step_in`, told at once where both ends of the step lie above the span, below it, left of it or right of it.
-fn quick_step_in(span: Span, x: usize, y: usize, nx: usize, ny: usize) -> bool
-    ensures { result ≡ step_in span x y nx ny }
+#[tactic(auto, using(crate::proofs::Touching::rows_off, crate::proofs::Touching::columns_off))]
+fn quick_step_in(span: Span, from: Spot, to: Spot) -> bool
+    ensures { result ≡ step_in span from.x from.y to.x to.y }
 {
-    if both_off(span.top, span.bottom, y, ny) {
+    if both_off(span.top, span.bottom, from.y, to.y)
+        || both_off(span.left, span.right, from.x, to.x)
+    {
         return false;
     }
-    if both_off(span.left, span.right, x, nx) {
-        return false;
-    }
-    step_in(span, x, y, nx, ny)
+    step_in(span, from, to)
 }
 
-// Whether the collision rectangle covers one of the first `count` points of the route, or a side centre of a diagonal step between them.
+// Whether the collision rectangle covers a point of the route, or a side centre of a diagonal step between two of them.
 pub fn candidate_touches_witness(
     collision: Rect,
     mover: Bounds,
     window: Rect,
     route: &[u32],
-    count: usize,
 ) -> bool
-    requires { Looks window mover route.now count }
-    ensures { (steps : List Step) → Trail window steps (take count route.now)
-        → result ≡ touched collision mover window steps (take count route.now) }
+    requires { Looks window mover }
+    ensures { (steps : List Step) → Trail window steps route.now
+        → result ≡ touched collision mover window steps route.now }
 {
-    if count == 0 {
+    let [first, rest @ ..] = route else {
         return false;
-    }
+    };
     let span = ground_rects::clip(collision, window, mover);
     let width = ground_rects::width(window);
-    let mut spot = spot_of(width, index(route[0]));
-    let mut i = 0;
-    while i + 1 < count {
-        i += 1;
-        let next = next_spot(spot, width, index(route[i]));
-        if quick_step_in(span, spot.x, spot.y, next.x, next.y) {
+    let mut spot = spot_of(width, *first as usize);
+    for &v in rest {
+        let next = next_spot(spot, width, v as usize);
+        if quick_step_in(span, spot, next) {
             return true;
         }
         spot = next;
@@ -176,77 +148,47 @@ pub fn candidate_touches_witness(
 }
 
 // Whether the group of placement i has a free slot beside the members.
-pub fn has_slot(
-    groups: &[u32],
-    numbers: &[u32],
-    edges: &[i32],
-    set: &[u16],
-    n: usize,
-    i: usize,
-) -> bool
-    requires rowed { Rowed n groups.now numbers.now edges.now set.now }
-    requires i_lt_n { i < n }
-    ensures { result ≡ free_slot (places_in n groups.now numbers.now edges.now) set.now i }
+#[tactic(auto, using(crate::proofs::Joining::slot_left))]
+pub fn has_slot(places: &FlatPlaces<'_>, set: &[u16], i: usize) -> bool
+    requires { InGroup places.now.groups.now places.now.numbers.now set.now i }
+    ensures { (n : ℕ) → result ≡ free_slot (places_at n places.now) set.now i }
 {
-    let group = group_at(numbers, i);
-    count_in_group(numbers, set, group) < index(groups[group])
-}
-
-// An index of a placement in 16 bits.
-fn narrow(i: usize) -> u16
-    requires { i < 65536 }
-    ensures { result ≡ i }
-{
-    i as u16
+    places.slots_taken(set, i).is_lt()
 }
 
 // Writes the placements that extend the set, in index order, into the first entries of the list, which has an entry for each placement. The
-// result is their number. The route that the set leaves is the first `count` points of the route.
+// result is their number.
 pub fn extensions(
+    places: &FlatPlaces<'_>,
     window: Rect,
     mover: Bounds,
-    groups: &[u32],
-    numbers: &[u32],
-    edges: &[i32],
     set: &[u16],
     route: &[u32],
-    count: usize,
     list: &mut [u16],
 ) -> usize
-    requires looks { Looks window mover route.now count }
-    requires rowed { Rowed (length list.old) groups.now numbers.now edges.now set.now }
-    ensures { (steps : List Step) → Trail window steps (take count route.now)
-        → ListWritten (extending (places_in (length list.old) groups.now numbers.now edges.now)
-        edges.now mover window steps set.now (take count route.now)) list.old list.new
-        result }
+    requires looks { Looks window mover }
+    requires rowed { Rowed (length list.old) places.now.groups.now places.now.numbers.now places.now.edges.now set.now }
+    ensures { (steps : List Step) → Trail window steps route.now
+        → ListWritten (extending (places_at (length list.old) places.now) places.now.edges.now mover window steps set.now route.now)
+        list.old list.new result }
 {
     let n = list.len();
     let mut k = 0;
-    let mut i = 0;
-    'look: while i < n {
-        let at = i;
-        i += 1;
-        if !has_slot(groups, numbers, edges, set, n, at) {
+    'look: for i in 0..n {
+        if !has_slot(places, set, i) {
             continue;
         }
-        let footprint = footprint_at(edges, at);
-        let mut j = 0;
-        while j < set.len() {
-            let m = member(set[j]);
-            if at == m {
+        let footprint = places.footprint(i);
+        for &m in set {
+            let m = m as usize;
+            if i == m || ground_rects::intersects(footprint, places.footprint(m)) {
                 continue 'look;
             }
-            if ground_rects::intersects(footprint, footprint_at(edges, m)) {
-                continue 'look;
-            }
-            j += 1;
         }
-        let collision = collision_at(edges, at);
-        if !candidate_touches_witness(collision, mover, window, route, count) {
-            continue;
+        if candidate_touches_witness(places.collision(i), mover, window, route) {
+            list[k] = i as u16;
+            k += 1;
         }
-        list[k] = narrow(at);
-        k += 1;
     }
     k
 }

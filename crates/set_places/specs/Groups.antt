@@ -15,3 +15,9 @@ taken groups numbers s i = nat_cmp (of_group numbers (get_or numbers (4 * i + 1)
 -- the four numbers of each member stand in the row
 pub record InRow (numbers s : List ℕ) : Type 0 where
   pub whole : (j : ℕ) → j < length s → 4 * get_or s j 0 + 4 ≤ length numbers
+
+-- the members stand in the row, and so does placement i, which is of a group that there is
+pub record InGroup (groups numbers s : List ℕ) (i : ℕ) : Type 0 where
+  pub members : InRow numbers s
+  pub whole : 4 * i + 4 ≤ length numbers
+  pub grouped : get_or numbers (4 * i + 1) 0 < length groups

@@ -1,9 +1,9 @@
 // Placements lent flat, read by index.
 #![tactic(auto)]
 
-ghost use Rattle.std.specs.Prelude.{◌≡◌, ◌+◌, ◌*◌, ◌≤◌, ◌<◌, length, get_or};
+ghost use Rattle.std.specs.Prelude.{◌≡◌, ◌+◌, ◌*◌, ◌≤◌, length, get_or};
 ghost use Rattle.rule_layouts.specs.Flat.{rect_at};
-ghost use Rattle.set_places.specs.Groups.{of_group, taken, InRow};
+ghost use Rattle.set_places.specs.Groups.{of_group, taken, InRow, InGroup};
 
 use base_model::{NUMBERS, Query, RECTS, Rect};
 use std::cmp::Ordering;
@@ -63,9 +63,7 @@ impl FlatPlaces<'_> {
 
     // How many members are of the group of placement i, as against its slots: fewer, as many, or more.
     pub fn slots_taken(&self, set: &[u16], i: usize) -> Ordering
-        requires in_row { InRow self.now.numbers.now set.now }
-        requires i_in_bounds { 4 * i + 4 ≤ length self.now.numbers.now }
-        requires grouped { get_or self.now.numbers.now (4 * i + 1) 0 < length self.now.groups.now }
+        requires { InGroup self.now.groups.now self.now.numbers.now set.now i }
         ensures { result ≡ taken self.now.groups.now self.now.numbers.now set.now i }
     {
         let group = self.group(i);
