@@ -17,6 +17,7 @@ use Rattle.ground_rects.specs.Windows.{centres}
 use Rattle.rule_routes.specs.Edges.{Step}
 use Rattle.rule_layouts.specs.Boards.{Mover}
 use Rattle.set_blocked.specs.Blocked.{blocked_map, without_at}
+use Rattle.set_blocked.proofs.Members.{length_blocked}
 use Rattle.set_blocked.proofs.Without.{without_at_without}
 use Rattle.set_pass.specs.Pass.{AreasKept, passed, minimal}
 use Rattle.set_pass.specs.Maps.{last_lifted, map_after_lifting}
@@ -32,7 +33,7 @@ pub record Lifting (w : Rect) (steps : List Step) (start end : ℕ) (m : Mover) 
   pub upto : k ≤ length s
   pub each : (j : ℕ) → j < k → is_some (passed w steps start end m (without_at j s)) ≡ true
   pub laid : cells' ≡ map_after m (centres w) s cells k
-  pub size : length cells' ≡ length cells
+  pub size : length cells' ≡ centres w
   pub kept : AreasKept queue predecessors route queue' predecessors' route'
 
 -- the map after lifting, by whether there is a member
@@ -91,13 +92,13 @@ module _ (w : Rect) (steps : List Step) (start end : ℕ) (m : Mover) (s : List 
       map_last cells cells' k (omega arith) (last_all (λ j h. n j (omega arith)) ∙ z) l
 
   -- ---- the loop
-  pub lifting_start : (cells queue predecessors route : List ℕ) → Lifting w steps start end m s cells queue predecessors route cells queue predecessors route 0
+  pub lifting_start : (cells queue predecessors route : List ℕ) → length cells ≡ centres w → Lifting w steps start end m s cells queue predecessors route cells queue predecessors route 0
   unfolding map_after
-  lifting_start cells queue predecessors route = record {
+  lifting_start cells queue predecessors route z = record {
     upto = omega arith;
     each = λ j h. absurd (not-suc-le-zero h);
     laid = refl;
-    size = refl;
+    size = z;
     kept = record { queue_kept = refl; predecessors_kept = refl; route_kept = refl };
   }
 
@@ -118,14 +119,14 @@ module _ (w : Rect) (steps : List Step) (start end : ℕ) (m : Mover) (s : List 
         go (no n) = let ne : j ≡ k → ⊥ = n in l.each j (omega arith)
 
     -- one more member, which gives a route
-    pub lifting_more : (r : Bool) {c₂ q₂ p₂ r₂ : List ℕ} → k < length s → r ≡ leaves k → r ≡ true → c₂ ≡ blocked_map m (centres w) (without_at k s) → length c₂ ≡ length cells'
+    pub lifting_more : (r : Bool) {c₂ q₂ p₂ r₂ : List ℕ} → k < length s → r ≡ leaves k → r ≡ true → c₂ ≡ blocked_map m (centres w) (without_at k s)
         → AreasKept queue' predecessors' route' q₂ p₂ r₂ → Lifting w steps start end m s cells queue predecessors route c₂ q₂ p₂ r₂ (k + 1)
     unfolding map_after
-    lifting_more r h e t c z q = record {
+    lifting_more r h e t c q = record {
       upto = omega arith;
       each = each_more (sym e ∙ t);
       laid = rw add-one c;
-      size = z ∙ l.size;
+      size = ap (λ (x : List ℕ). length x) c ∙ length_blocked m (centres w) (without_at k s);
       kept = lifting_kept q;
     }
 

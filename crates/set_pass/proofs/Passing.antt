@@ -1,7 +1,9 @@
 -- Routes past a set: the map that the code lays is the set's, so the route over it is the route past the set. A route that was clear is clear again when its points
 -- are wiped.
 use Prim.Native.Nat.{ℕ, ◌*◌, ◌≤◌, ◌<◌}
-use mathlib.Core.Path.{◌≡◌, refl, ap, ap₂, ◌∙◌}
+use Rattle.std.specs.Prelude as std
+use Rattle.std.specs.Prelude.{Some, None}
+use mathlib.Core.Path.{◌≡◌, refl, sym, ap, ap₂, ◌∙◌}
 use mathlib.Core.Bool.{Bool, true, false, not}
 use mathlib.Core.Option.{Option, none, some}
 use mathlib.Core.List.{List, ◌++◌}
@@ -14,11 +16,10 @@ use Rattle.ground_rects.specs.Windows.{width, height, centres}
 use Rattle.rule_routes.specs.Edges.{Step, window_edges}
 use Rattle.rule_routes.specs.Routes as routes
 use Rattle.rule_layouts.specs.Boards.{Mover, leaves_open}
-use Rattle.set_blocked.specs.Blocked.{bit, blocked_map, without_at}
-use Rattle.set_blocked.proofs.Members.{blocked_at_lem}
-use Rattle.set_blocked.proofs.Without.{without_at_past}
+use Rattle.set_blocked.specs.Blocked.{bit, blocked_map}
+use Rattle.set_blocked.proofs.Members.{blocked_at_lem, length_blocked}
 use Rattle.route_find.specs.Ground.{open_in}
-use Rattle.route_find.specs.Results.{RouteFound, point_count, laid_into}
+use Rattle.route_find.specs.Results.{Routed, counted, point_count, laid_into}
 use Rattle.set_pass.specs.Pass.{RouteLent, AreasKept, passed}
 use Rattle.set_pass.proofs.Nearby.{window_route_same}
 
@@ -39,14 +40,15 @@ past_is w steps start end m s cells W H p q e a b =
     ap₂ (λ (x y : ℕ). routes.route (window_edges x y steps) (x * y) (open_in cells) start end) p q
     ∙ window_route_same (width w) (height w) steps (open_in cells) (leaves_open m s) (open_is m (centres w) s cells e) start end a b
 
--- nothing lifted is the whole set
-pub whole : (s : List ℕ) → without_at (length s) s ≡ s
-whole s = without_at_past (length s) s (omega arith)
-
 -- ---- wiping a route
 pub record Wiped (route route' : List ℕ) (r : ℕ) : Type 0 where
   pub room : r ≤ length route'
   pub clear : replicate r 0 ++ drop r route' ≡ route
+
+counted_is : (o : Option (List ℕ)) (n : ℕ) → counted o ≡ Some n → n ≡ point_count o
+unfolding counted point_count
+counted_is none n e = cc
+counted_is (some p) n e = cc
 
 wiped_by : (o : Option (List ℕ)) (c : ℕ) (route route' : List ℕ) → route ≡ replicate c 0 → route' ≡ laid_into o route → length route' ≡ length route → Wiped route route' (point_count o)
 unfolding laid_into point_count
@@ -62,8 +64,8 @@ wiped_by (some p) c route route' e l s =
           ∙ laid_cleared 0 c route (all_front 0 c e) p room;
     }
 
-pub wiped : (o : Option (List ℕ)) (c : ℕ) (route route' : List ℕ) (r : ℕ) → route ≡ replicate c 0 → RouteFound o route route' r → length route' ≡ length route → Wiped route route' r
-wiped o c route route' r e t s = rw t.count (wiped_by o c route route' e t.points s)
+pub wiped : {o : Option (List ℕ)} {route route' : List ℕ} {r : std.Option ℕ} (c n : ℕ) → route ≡ replicate c 0 → Routed o route route' r → r ≡ Some n → length route' ≡ length route → Wiped route route' n
+wiped {o} {route} {route'} {r} c n e t k s = rw (counted_is o n (sym t.count ∙ k)) (wiped_by o c route route' e t.points s)
 
 -- ---- the areas
 -- kept, and kept again
@@ -83,3 +85,8 @@ lent_again t z k = record {
   predecessors_clear = k.predecessors_kept ∙ t.predecessors_clear;
   route_clear = k.route_kept ∙ t.route_clear;
 }
+
+-- the same once a set is laid on the map
+pub lent_laid : {w : Rect} {start end : ℕ} {map queue predecessors route map' queue' predecessors' route' : List ℕ} (m : Mover) (s : List ℕ) → RouteLent w start end map queue predecessors route
+    → map' ≡ blocked_map m (centres w) s → AreasKept queue predecessors route queue' predecessors' route' → RouteLent w start end map' queue' predecessors' route'
+lent_laid {w} m s t e k = lent_again t (ap (λ (l : List ℕ). length l) e ∙ length_blocked m (centres w) s ∙ sym t.bytes) k

@@ -1,36 +1,56 @@
--- A route laid into an area: how many points there are says whether there is a route.
+-- A route laid into an area: whether there are points says whether there is a route.
+use Rattle.std.specs.Prelude.{Some, None}
+use Rattle.std.specs.Prelude as std
 use Prim.Native.Nat.{ℕ}
-use mathlib.Core.Path.{◌≡◌, refl, ap, ap₂, ◌∙◌}
-use mathlib.Core.Bool.{true≢false}
+use mathlib.Core.Path.{◌≡◌, refl, sym, ap, ap₂, ◌∙◌}
+use mathlib.Core.Bool.{true, false}
 use mathlib.Core.Option.{Option, none, some}
 use mathlib.Core.List.{List}
 use lib.ListN.{length, take, drop}
 use lib.Seq.{take_at}
 use Rattle.base_laws.specs.Lists.{is_some}
-use Rattle.route_find.specs.Results.{RouteFound, point_count, laid_into}
+use Rattle.route_find.specs.Results.{Routed, counted, laid_into}
 
-pub routed_none : (o : Option (List ℕ)) (route route' : List ℕ) → RouteFound o route route' 0 → o ≡ none
-unfolding is_some
-routed_none none route route' t = refl
-routed_none (some p) route route' t = absurd (true≢false t.exists)
+counted_none : (o : Option (List ℕ)) → counted o ≡ None → o ≡ none
+unfolding counted
+counted_none none e = refl
+counted_none (some p) e = cc
 
-pub record RouteWritten (o : Option (List ℕ)) (route' : List ℕ) (r : ℕ) : Type 0 where
+counted_some : (o : Option (List ℕ)) (n : ℕ) → counted o ≡ Some n → is_some o ≡ true
+unfolding counted is_some
+counted_some none n e = cc
+counted_some (some p) n e = refl
+
+module _ {o : Option (List ℕ)} {route route' : List ℕ} {r : std.Option ℕ} (t : Routed o route route' r) where
+  pub routed_none : r ≡ None → o ≡ none
+  routed_none e = counted_none o (sym t.count ∙ e)
+
+  pub routed_shut : r ≡ None → false ≡ is_some o
+  unfolding is_some
+  routed_shut e = sym (ap is_some (routed_none e))
+
+  pub routed_open : (n : ℕ) → r ≡ Some n → true ≡ is_some o
+  routed_open n e = sym (counted_some o n (sym t.count ∙ e))
+
+  -- no points, no change
+  pub routed_kept : r ≡ None → route' ≡ route
+  unfolding laid_into
+  routed_kept e = t.points ∙ ap (λ (x : Option (List ℕ)). laid_into x route) (routed_none e)
+
+-- a route with n points
+pub record RouteWritten (o : Option (List ℕ)) (route' : List ℕ) (n : ℕ) : Type 0 where
   pub points : List ℕ
   pub is : o ≡ some points
-  pub number : r ≡ length points
-  pub first : take r route' ≡ points
+  pub number : n ≡ length points
+  pub first : take n route' ≡ points
 
-pub routed_some : (o : Option (List ℕ)) (route route' : List ℕ) (r : ℕ) → (r ≡ 0 → ⊥) → RouteFound o route route' r → RouteWritten o route' r
-unfolding point_count laid_into
-routed_some none route route' r n t = absurd (n t.count)
-routed_some (some p) route route' r n t = record {
-  points = p;
-  is = refl;
-  number = t.count;
-  first = ap₂ take t.count t.points ∙ take_at p (drop (length p) route) (length p) refl;
-}
-
--- no points, no change
-pub routed_kept : (o : Option (List ℕ)) (route route' : List ℕ) (r : ℕ) → r ≡ 0 → RouteFound o route route' r → route' ≡ route
-unfolding laid_into
-routed_kept o route route' r e t = t.points ∙ ap (λ (x : Option (List ℕ)). laid_into x route) (routed_none o route route' (rw e at t))
+pub routed_some : (o : Option (List ℕ)) (route route' : List ℕ) (n : ℕ) → counted o ≡ Some n → route' ≡ laid_into o route → RouteWritten o route' n
+unfolding counted laid_into
+routed_some none route route' n e t = cc
+routed_some (some p) route route' n e t =
+    let k : n ≡ length p = cc in record {
+      points = p;
+      is = refl;
+      number = k;
+      first = ap₂ take k t ∙ take_at p (drop (length p) route) (length p) refl;
+    }

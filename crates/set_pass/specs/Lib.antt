@@ -1,3 +1,4 @@
+pub mod Lent
 pub mod Pass
 pub mod Maps
 pub mod Allowed

@@ -4,13 +4,14 @@ use Rattle.std.proofs.Math.Option.{Option, none, some}
 use Rattle.base_laws.specs.Lists.{all_of, ascends, without, is_some}
 use Rattle.base_model.specs.declared.Rect.{Rect}
 use Rattle.base_model.specs.declared.Bounds.{Bounds}
-use Rattle.base_model.specs.declared.Query.{Query}
 use Rattle.ground_rects.specs.Rects.{nonempty, small}
 use Rattle.ground_rects.specs.Windows.{width, height, centres}
 use Rattle.rule_routes.specs.Edges.{Step, window_edges}
 use Rattle.rule_routes.specs.Routes as routes
 use Rattle.rule_layouts.specs.Boards.{Mover, leaves_open}
 use Rattle.set_blocked.specs.Blocked.{AllowReady, Named}
+use Rattle.set_places.specs.declared.Given.{Given}
+use Rattle.set_pass.specs.declared.Ground.{Ground}
 
 -- the working areas for a route in the window from centre start to centre end; the map may hold anything
 pub record RouteLent (w : Rect) (start end : ℕ) (map queue predecessors route : List ℕ) : Type 0 where
@@ -30,9 +31,9 @@ pub record Moving (w : Rect) (m : Bounds) (base : List ℕ) (edges : List ℤ) (
   pub named : Named edges set
 
 -- what the movers of a query need where no route is left to the blocked one
-pub record Shutting (q : Query) (edges : List ℤ) (block_base allow_base set : List ℕ) : Type 0 where
-  pub moving : Moving q.window q.block block_base edges set
-  pub allowed : AllowReady q.window q.allow allow_base
+pub record Shutting (g : Ground) (given : Given) (set : List ℕ) : Type 0 where
+  pub moving : Moving g.window given.query.block given.block_base.now g.places.edges.now set
+  pub allowed : AllowReady g.window given.query.allow given.allow_base.now
   pub rising : ascends set ≡ true
 
 -- the areas are as they were

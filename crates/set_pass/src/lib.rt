@@ -1,212 +1,125 @@
 // Who passes a set of placements: a route past it, whether it is a minimal block, the allowed mover's route.
 #![tactic(auto)]
 
-ghost use Rattle.std.specs.Prelude.{◌≡◌, true};
+ghost use Rattle.std.specs.Prelude.{◌≡◌, true, length};
 ghost use Rattle.base_laws.specs.Lists.{ascends, is_some};
-ghost use Rattle.ground_rects.specs.Windows.{centres};
-ghost use Rattle.rule_routes.specs.Edges.{steps_of};
-ghost use Rattle.set_blocked.specs.Blocked.{blocked_map, mover_in, allow_in, without_at, AllowReady, Named};
-ghost use Rattle.route_find.specs.Results as routing;
-ghost use Rattle.set_pass.specs.Pass.{RouteLent, Moving, AreasKept, passed, minimal, allowed_past};
-ghost use Rattle.set_pass.specs.Maps.{map_after_lifting, map_after_allowed};
+ghost use Rattle.set_blocked.specs.Blocked.{left_by, AllowReady, Named};
+ghost use Rattle.route_find.specs.Results.{Routed};
+ghost use Rattle.set_pass.specs.Lent.{Lent, Meets, Kept, Restored, past, is_minimal, allow_on, allowed_on, map_past, map_lifted, map_allowed};
 ghost use Rattle.set_pass.specs.Allowed.{Allowed};
 
 use base_model::{Bounds, Rect};
+use route_step::Grid;
+use set_blocked::Mover;
+use set_places::FlatPlaces;
 
-// Whether the allowed mover passes, and the number of points of its route.
+// What a set is looked at on: the window, the two ends as its centres, the placements, and the order in which steps are tried.
 #[derive(Clone, Copy)]
-pub enum Passage {
-    Shut,
-    Free(usize),
+pub struct Ground<'a> {
+    pub window: Rect,
+    pub start: usize,
+    pub end: usize,
+    pub places: FlatPlaces<'a>,
+    pub steps: &'a [i32],
 }
 
-// Lays the set without its member number `lifted` over the mover's baseline, and the mover's route past it into the route. The result is
-// the number of its points, 0 where there is no route.
+// The areas that a look at a set works in, each with an entry for each centre of the window.
+#[derive(Drop)]
+pub struct Areas<'a> {
+    pub map: &'a mut [u8],
+    pub queue: &'a mut [u32],
+    pub predecessors: &'a mut [u32],
+    pub route: &'a mut [u32],
+}
+
+// Lays the set, without its member number `lifted` where one is lifted, over the mover's baseline, and the mover's route past it into the
+// route. The result is the number of its points.
 pub fn route_past(
-    base: &[u8],
-    window: Rect,
-    start: usize,
-    end: usize,
-    edges: &[i32],
-    mover: Bounds,
-    steps: &[i32],
+    ground: &Ground<'_>,
+    mover: &Mover<'_>,
     set: &[u16],
-    lifted: usize,
-    map: &mut [u8],
-    queue: &mut [u32],
-    predecessors: &mut [u32],
-    route: &mut [u32],
-) -> usize
-    requires route_lent { RouteLent window start end map.old queue.old predecessors.old route.old }
-    requires moving { Moving window mover base.now edges.now set.now }
-    ensures route_found { routing.RouteFound
-        (passed window (steps_of steps.now) start end
-        (mover_in window edges.now mover base.now) (without_at lifted set.now))
-        route.old route.new result }
-    ensures search_restored { routing.SearchRestored queue.old predecessors.old
-        queue.new predecessors.new }
-    ensures map_after { map.new ≡ blocked_map (mover_in window edges.now mover base.now) (centres window)
-        (without_at lifted set.now) }
+    lifted: Option<usize>,
+    areas: &mut Areas<'_>,
+) -> Option<usize>
+    requires route_lent { Lent ground.now areas.old }
+    requires moving { Meets ground.now mover.now set.now }
+    ensures routed { Routed (past ground.now mover.now (left_by lifted set.now)) areas.old.route.now areas.new.route.now result }
+    ensures search_restored { Restored areas.old areas.new }
+    ensures map_after { areas.new.map.now ≡ map_past ground.now mover.now (left_by lifted set.now) }
+    ensures route_length { length areas.new.route.now ≡ length areas.old.route.now }
 {
-    set_blocked::blocked_for(base, window, edges, mover, set, lifted, map);
-    let width = ground_rects::width(window);
-    let height = ground_rects::height(window);
-    route_find::route(
+    let window = ground.window;
+    let map = &mut *areas.map;
+    set_blocked::blocked_for(mover, window, &ground.places, set, lifted, map);
+    let grid = Grid {
         map,
-        width,
-        height,
-        steps,
-        start,
-        end,
-        queue,
-        predecessors,
-        route,
-    )
+        width: ground_rects::width(window),
+        height: ground_rects::height(window),
+    };
+    let queue = &mut *areas.queue;
+    let predecessors = &mut *areas.predecessors;
+    route_find::route(&grid, ground.steps, ground.start, ground.end, queue, predecessors, areas.route)
 }
 
-// Whether the set without its member number `lifted` leaves the mover a route. The map is left laid.
+// Whether the set, without its member number `lifted` where one is lifted, leaves the mover a route. The map is left laid.
 pub fn lets_pass(
-    base: &[u8],
-    window: Rect,
-    start: usize,
-    end: usize,
-    edges: &[i32],
-    mover: Bounds,
-    steps: &[i32],
+    ground: &Ground<'_>,
+    mover: &Mover<'_>,
     set: &[u16],
-    lifted: usize,
-    map: &mut [u8],
-    queue: &mut [u32],
-    predecessors: &mut [u32],
-    route: &mut [u32],
+    lifted: Option<usize>,
+    areas: &mut Areas<'_>,
 ) -> bool
-    requires route_lent { RouteLent window start end map.old queue.old predecessors.old route.old }
-    requires moving { Moving window mover base.now edges.now set.now }
-    ensures value { result ≡ is_some (passed window (steps_of steps.now) start end
-        (mover_in window edges.now mover base.now) (without_at lifted set.now)) }
-    ensures areas_kept { AreasKept queue.old predecessors.old route.old
-        queue.new predecessors.new route.new }
-    ensures map_after { map.new ≡ blocked_map (mover_in window edges.now mover base.now) (centres window)
-        (without_at lifted set.now) }
+    requires route_lent { Lent ground.now areas.old }
+    requires moving { Meets ground.now mover.now set.now }
+    ensures value { result ≡ is_some (past ground.now mover.now (left_by lifted set.now)) }
+    ensures areas_kept { Kept areas.old areas.new }
+    ensures map_after { areas.new.map.now ≡ map_past ground.now mover.now (left_by lifted set.now) }
 {
-    let n = route_past(
-        base,
-        window,
-        start,
-        end,
-        edges,
-        mover,
-        steps,
-        set,
-        lifted,
-        map,
-        queue,
-        predecessors,
-        route,
-    );
-    base_areas::clear_u32(route, n);
-    0 < n
+    let Some(n) = route_past(ground, mover, set, lifted, areas) else {
+        return false;
+    };
+    base_areas::clear(areas.route, n, 0);
+    true
 }
 
 // Whether lifting any one member leaves the mover open ends and a route. It stops at the first member that does not; the map is left as
 // laid without the member last lifted.
-pub fn is_minimal_block(
-    base: &[u8],
-    window: Rect,
-    start: usize,
-    end: usize,
-    edges: &[i32],
-    mover: Bounds,
-    steps: &[i32],
-    set: &[u16],
-    map: &mut [u8],
-    queue: &mut [u32],
-    predecessors: &mut [u32],
-    route: &mut [u32],
-) -> bool
-    requires route_lent { RouteLent window start end map.old queue.old predecessors.old route.old }
-    requires moving { Moving window mover base.now edges.now set.now }
+pub fn is_minimal_block(ground: &Ground<'_>, mover: &Mover<'_>, set: &[u16], areas: &mut Areas<'_>) -> bool
+    requires route_lent { Lent ground.now areas.old }
+    requires moving { Meets ground.now mover.now set.now }
     requires set_value { ascends set.now ≡ true }
-    ensures value { result ≡ minimal window (steps_of steps.now) start end
-        (mover_in window edges.now mover base.now) set.now }
-    ensures areas_kept { AreasKept queue.old predecessors.old route.old
-        queue.new predecessors.new route.new }
-    ensures map_after { map.new ≡ map_after_lifting window (steps_of steps.now) start end
-        (mover_in window edges.now mover base.now) set.now map.old }
+    ensures value { result ≡ is_minimal ground.now mover.now set.now }
+    ensures areas_kept { Kept areas.old areas.new }
+    ensures map_after { areas.new.map.now ≡ map_lifted ground.now mover.now set.now areas.old.map.now }
 {
-    let mut k = 0;
-    while k < set.len() {
-        if !lets_pass(
-            base,
-            window,
-            start,
-            end,
-            edges,
-            mover,
-            steps,
-            set,
-            k,
-            map,
-            queue,
-            predecessors,
-            route,
-        ) {
+    for k in 0..set.len() {
+        if !lets_pass(ground, mover, set, Some(k), areas) {
             return false;
         }
-        k += 1;
     }
     true
 }
 
 // The allowed mover's route past the set, laid into the route, and the set over its baseline; no points and nothing laid where there is no
-// allowed mover.
+// allowed mover. The result is the number of points, and none where the mover has no route.
 pub fn allowed_route(
+    ground: &Ground<'_>,
     allow: Option<Bounds>,
     base: &[u8],
-    window: Rect,
-    start: usize,
-    end: usize,
-    edges: &[i32],
-    steps: &[i32],
     set: &[u16],
-    map: &mut [u8],
-    queue: &mut [u32],
-    predecessors: &mut [u32],
-    route: &mut [u32],
-) -> Passage
-    requires route_lent { RouteLent window start end map.old queue.old predecessors.old route.old }
-    requires allow_ready { AllowReady window allow base.now }
-    requires named { Named edges.now set.now }
-    ensures allowed { Allowed
-        (allowed_past window (steps_of steps.now) start end
-        (allow_in window edges.now allow base.now) set.now)
-        result route.old route.new }
-    ensures search_restored { routing.SearchRestored queue.old predecessors.old
-        queue.new predecessors.new }
-    ensures map_after { map.new ≡ map_after_allowed window (allow_in window edges.now allow base.now)
-        set.now map.old }
+    areas: &mut Areas<'_>,
+) -> Option<usize>
+    requires route_lent { Lent ground.now areas.old }
+    requires allow_ready { AllowReady ground.now.window allow base.now }
+    requires named { Named ground.now.places.edges.now set.now }
+    ensures allowed { Allowed (allowed_on ground.now (allow_on ground.now allow base.now) set.now)
+        result areas.old.route.now areas.new.route.now }
+    ensures search_restored { Restored areas.old areas.new }
+    ensures map_after { areas.new.map.now ≡ map_allowed ground.now (allow_on ground.now allow base.now) set.now areas.old.map.now }
+    ensures route_length { length areas.new.route.now ≡ length areas.old.route.now }
 {
-    let Some(mover) = allow else {
-        return Passage::Free(0);
+    let Some(bounds) = allow else {
+        return Some(0);
     };
-    let n = set.len();
-    let k = route_past(
-        base,
-        window,
-        start,
-        end,
-        edges,
-        mover,
-        steps,
-        set,
-        n,
-        map,
-        queue,
-        predecessors,
-        route,
-    );
-    if k == 0 {
-        return Passage::Shut;
-    }
-    Passage::Free(k)
+    route_past(ground, &Mover { bounds, base }, set, None, areas)
 }
