@@ -4,9 +4,12 @@ use mathlib.Core.Path.{◌≡◌, refl, sym, ◌∙◌, ap, ap₂, subst}
 use mathlib.Core.Bool.{true}
 use mathlib.Core.List.{List, [], ◌∷◌, map}
 use native.Mathlib.Omega.{arith}
+use lib.Dec.{T}
 use lib.IntN.{ℤ, pos, nat_abs, ◌+ℤ◌}
-use lib.ListN.{length, take, get_or, set, length-map, get_or-map}
-use lib.Seq.{get_or-take, length-take-le}
+use lib.Signed.{non_neg}
+use mir.Syntax.{w32}
+use mir.Val.{Fits}
+use lib.ListN.{length, get_or, set, length-map, get_or-map}
 use Rattle.base_model.specs.declared.Rect.{Rect}
 use Rattle.base_model.specs.declared.Position.{Position}
 use Rattle.base_laws.specs.Ints.{up, dn}
@@ -29,24 +32,24 @@ numbers_at (p ∷ ps) (suc i) d h =
       ap (λ (k : ℕ). get_or (numbers (p ∷ ps)) k 0) (let e : 2 * suc i + 1 ≡ suc (suc (2 * i + 1)) = omega arith in e) ∙ r.1,
     )
 
-module _ (w : Rect) (route : List ℕ) (n : ℕ) (long : n ≤ length route) where
+module _ (w : Rect) (route : List ℕ) where
   abbrev pub points : List ℕ
-  points = numbers (map (position_of w) (take n route))
+  points = numbers (map (position_of w) route)
 
-  pub length_points : length points ≡ 2 * n
-  length_points =
-      omega (arith, length_numbers (map (position_of w) (take n route)), length-map (take n route) (position_of w), length-take-le n route long)
+  pub length_points : length points ≡ 2 * length route
+  length_points = omega (arith, length_numbers (map (position_of w) route), length-map route (position_of w))
 
   -- v has the first i numbers of the points
   abbrev pub PointsLaid : ℕ → List ℕ → List ℕ → ℕ → Type 0
-  PointsLaid at v₀ v i = FillingFrom (λ (j : ℕ). get_or points j 0) at (2 * n) v₀ v i
+  PointsLaid at v₀ v i = FillingFrom (λ (j : ℕ). get_or points j 0) at (2 * length route) v₀ v i
 
-  pub points_next : (at : ℕ) (v₀ v : List ℕ) (i : ℕ) (p : Position) → p ≡ position_of w (get_or route i 0) → at + 2 * n ≤ length v₀ → i < n
+  pub points_next : (at : ℕ) (v₀ v : List ℕ) (i : ℕ) (p : Position) → p ≡ position_of w (get_or route i 0) → at + 2 * length route ≤ length v₀ → i < length route
       → PointsLaid at v₀ v (2 * i) → PointsLaid at v₀ (set (set v (at + 2 * i) p.x) (at + 2 * i + 1) p.y) (2 * (i + 1))
   points_next at v₀ v i p e room h t =
-      let ps : List Position = map (position_of w) (take n route) in
-      let k : length ps ≡ n = length-map (take n route) (position_of w) ∙ length-take-le n route long in
-      let q : p ≡ get_or ps i (position_of w 0) = e ∙ sym (get_or-map (position_of w) (take n route) i 0 ∙ ap (position_of w) (get_or-take n route i 0 h)) in
+      let n : ℕ = length route in
+      let ps : List Position = map (position_of w) route in
+      let k : length ps ≡ n = length-map route (position_of w) in
+      let q : p ≡ get_or ps i (position_of w 0) = e ∙ sym (get_or-map (position_of w) route i 0) in
       let r = numbers_at ps i (position_of w 0) (omega arith) in
       let f : ℕ → ℕ = λ (j : ℕ). get_or points j 0 in
       let one = filling_from_more f at (2 * n) v₀ room v (2 * i) p.x (omega arith) (ap (λ (z : Position). z.x) q ∙ sym r.0) t in
@@ -59,6 +62,14 @@ plus_parts : (z : ℤ) (m : ℕ) → z ≡ pos (up z) → nat_abs (z +ℤ pos m)
 plus_parts z m e =
     let d : dn z ≡ 0 = ap dn e in
     omega (arith, add_parts z (pos m), nat_abs_parts (z +ℤ pos m) (omega (arith, add_parts z (pos m))))
+
+-- an edge that is not negative, as it is read back
+module _ {z' z : ℤ} (e : z' ≡ z) (p : z ≡ pos (up z)) where
+  pub edge_is : nat_abs z' ≡ up z
+  edge_is = ap nat_abs (e ∙ p)
+
+  pub edge_casts : up z < 4294967296 → T (non_neg z') × Fits w32 (nat_abs z')
+  edge_casts h = subst (λ (y : ℤ). T (non_neg y) × Fits w32 (nat_abs y)) (sym (e ∙ p)) (tt, record { fits = h })
 
 module _ (w : Rect) (fits : window_fits 8192 8192 w ≡ true) where
   pub corner : Framed 8192 8192 w (up w.left) (up w.top)

@@ -1,30 +1,17 @@
 -- Sets as rows: when two are the same, what a look through rows finds, and how a member is put into its place.
 use Prim.Native.Nat.{ℕ, zero, suc, ◌+◌, ◌-◌, ◌*◌, ◌≤◌, ◌<◌}
 use mathlib.Core.Path.{◌≡◌, refl, sym, ◌∙◌, ap, subst}
-use mathlib.Core.Bool.{Bool, true, false, ◌||◌, true≢false}
+use mathlib.Core.Bool.{Bool, true, false, not, ◌||◌, true≢false}
 use mathlib.Core.List.{List, [], ◌∷◌, ◌++◌, append_assoc}
 use native.Mathlib.Omega.{arith}
 use native.Mathlib.Numerals.{add-one}
-use lib.ListN.{length, take, drop, get_or, set, length-append, length-drop, length-set, replicate-append-replicate, drop_of_length-le, get_or-append}
-use lib.Seq.{
-  take-append_seam,
-  drop-append_seam,
-  ext_get_or,
-  get_or-take,
-  get_or-drop,
-  take-append-le,
-  length-take-le,
-  take_at,
-  drop-cons,
-  take-suc,
-  append_snoc,
-  take-suc-set,
-  drop-set-lt,
-  drop-drop,
-  drop-append-le,
-  set_split,
-}
-use borrow.Author.Tests.{lt-ltb, le-ltb}
+use lib.ListN.{length, take, drop, get_or, set, length-append, length-drop, take-append-drop, drop_of_length-le}
+use lib.Seq.{paste, take-append_seam, ext_get_or, get_or-take, get_or-drop, length-take-le, take_at, drop_at, drop-cons}
+use lib.Dec.{ltb}
+use Rattle.std.specs.List.{position, position_or_len, copy_within}
+use Rattle.std.specs.Option.{unwrap_or}
+use Rattle.std.proofs.lemmas.Grind.{common_steps}
+use Rattle.std.proofs.lemmas.List.Sums.{prefix_len-le-length}
 use Rattle.base_laws.specs.Lists.{any_of, same, put_in, padded}
 use Rattle.base_laws.specs.Fill.{zeros}
 use Rattle.base_laws.proofs.Members.{either, get_d_member}
@@ -108,160 +95,89 @@ module _ (area : List ℕ) (count : ℕ) (held s : List ℕ) (vs : List (List �
   unfolding any_of
   none_left h = o.on ∙ ap (λ (q : List (List ℕ)). any_of (same s) q) (drop_of_length-le vs (let w : length vs ≤ j = omega (arith, k.count) in w))
 
--- a place in a row
-pub ins_pass : (v : ℕ) (s : List ℕ) (i : ℕ) → i < length s → get_or s i 0 ≤ v → take i s ++ put_in v (drop i s) ≡ take (suc i) s ++ put_in v (drop (suc i) s)
-unfolding put_in
-ins_pass v s i h k =
-    ap (λ (q : List ℕ). take i s ++ put_in v q) (drop-cons s i 0 h)
-    ∙ ap (λ (b : Bool). take i s ++ (elim b [ true ↦ v ∷ get_or s i 0 ∷ drop (suc i) s | false ↦ get_or s i 0 ∷ put_in v (drop (suc i) s) ])) (le-ltb v (get_or s i 0) k)
-    ∙ sym (ap (λ (q : List ℕ). q ++ put_in v (drop (suc i) s)) (take-suc s i 0 h) ∙ append_snoc (take i s) (get_or s i 0) (put_in v (drop (suc i) s)))
+-- ---- a member put into its place, the first that is above it: those from there on go one on
+one_on : (x v k : ℕ) (s : List ℕ) → x ∷ (take k s ++ (v ∷ drop k s)) ≡ take (1 + k) (x ∷ s) ++ (v ∷ drop (1 + k) (x ∷ s))
+one_on x v k s = ap (λ (j : ℕ). take j (x ∷ s) ++ (v ∷ drop j (x ∷ s))) (let e : suc k ≡ 1 + k = omega arith in e)
 
-pub ins_stop : (v : ℕ) (s : List ℕ) (i : ℕ) → i < length s → v < get_or s i 0 → take i s ++ put_in v (drop i s) ≡ take i s ++ (v ∷ drop i s)
+put_in_at : (v : ℕ) (s : List ℕ) → put_in v s ≡ take (position_or_len (λ (x : ℕ). ltb v x) s) s ++ (v ∷ drop (position_or_len (λ (x : ℕ). ltb v x) s) s)
 unfolding put_in
-ins_stop v s i h k =
-    ap (λ (q : List ℕ). take i s ++ put_in v q) (drop-cons s i 0 h)
-    ∙ ap (λ (b : Bool). take i s ++ (elim b [ true ↦ v ∷ get_or s i 0 ∷ drop (suc i) s | false ↦ get_or s i 0 ∷ put_in v (drop (suc i) s) ])) (lt-ltb v (get_or s i 0) k)
-    ∙ ap (λ (q : List ℕ). take i s ++ (v ∷ q)) (sym (drop-cons s i 0 h))
-
-pub ins_end : (v : ℕ) (s : List ℕ) (i : ℕ) → length s ≤ i → take i s ++ put_in v (drop i s) ≡ take i s ++ (v ∷ drop i s)
-unfolding put_in
-ins_end v s i h = ap (λ (q : List ℕ). take i s ++ put_in v q) (drop_of_length-le s h) ∙ ap (λ (q : List ℕ). take i s ++ (v ∷ q)) (sym (drop_of_length-le s h))
-
-pub row_get : (s : List ℕ) (i : ℕ) → i < length s → get_or (row s) (i + 1) 0 ≡ get_or s i 0
-unfolding row padded
-row_get s i h = ap (λ (k : ℕ). get_or (row s) k 0) (add-one i) ∙ get_or-append s (zeros (6 - length s)) 0 i h
+put_in_at v [] = refl
+put_in_at v (x ∷ s) =
+    either (ltb v x) (λ t. rw (put_in, t))
+    (λ e. rw (put_in, e) (ap (λ (q : List ℕ). x ∷ q) (put_in_at v s) ∙ one_on x v (position_or_len (λ (y : ℕ). ltb v y) s) s))
 
 pub row_head : (s : List ℕ) → get_or (row s) 0 0 ≡ length s
 unfolding row
 row_head s = refl
 
--- the look for a place: v goes into s where it would go past the first i members
-pub record Passed (v : ℕ) (s : List ℕ) (i : ℕ) : Type 0 where
-  pub so : put_in v s ≡ take i s ++ put_in v (drop i s)
+row_members : (s : List ℕ) → take (length s) (drop 1 (row s)) ≡ s
+unfolding row padded
+row_members s = take-append_seam s (zeros (6 - length s))
 
-module _ (held : List ℕ) (v n i : ℕ) (e : n ≡ get_or held 0 0) (s : List ℕ) (r : held ≡ row s) (p : Passed v s i) where
-  long : n ≡ length s
-  long = e ∙ ap (λ (q : List ℕ). get_or q 0 0) r ∙ row_head s
+-- no member is above it: it goes to the end
+pub or_len : (p : ℕ → Bool) (xs : List ℕ) (n : ℕ) → n ≡ length xs → unwrap_or (position p xs) n ≡ position_or_len p xs
+or_len p xs n e = grind (arith, common_steps, prefix_len-le-length)
 
-  at_i : i < n → get_or held (i + 1) 0 ≡ get_or s i 0
-  at_i h = ap (λ (q : List ℕ). get_or q (i + 1) 0) r ∙ row_get s i (let l = long in omega arith)
-
-  pub place_here : i < n → v < get_or held (i + 1) 0 → put_in v s ≡ take i s ++ (v ∷ drop i s)
-  place_here h k = p.so ∙ ins_stop v s i (let l = long in omega arith) (let a = at_i h in omega arith)
-
-  pub place_on : i < n → get_or held (i + 1) 0 ≤ v → Passed v s (i + 1)
-  place_on h k = record { so = p.so ∙ ins_pass v s i (let l = long in omega arith) (let a = at_i h in omega arith) ∙ ap (λ (j : ℕ). take j s ++ put_in v (drop j s)) (sym (add-one i)) }
-
-  pub place_end : n ≤ i → put_in v s ≡ take i s ++ (v ∷ drop i s)
-  place_end h = p.so ∙ ins_end v s i (let l = long in omega arith)
-
--- ---- a member put into its place: those after it go one on
-pub record Shift (held : List ℕ) (v at i c : ℕ) (out : List ℕ) : Type 0 where
-  pub whole : take (suc i) out ++ (c ∷ drop (suc i) out) ≡ take (suc at) held ++ (v ∷ drop (suc at) held)
-  pub rest : drop (suc i) out ≡ drop (suc i) held
-  pub long : length out ≡ length held
-
-pub shift_next : (held : List ℕ) (v at i c : ℕ) (out : List ℕ) → Shift held v at i c out → suc i < length held → Shift held v at (i + 1) (get_or out (i + 1) 0) (set out (i + 1) c)
-shift_next held v at i c out s h =
-    subst (λ (j : ℕ). Shift held v at j (get_or out j 0) (set out j c)) (sym (add-one i))
-    (record {
-      whole =
-          ap (λ (q : List ℕ). q ++ (get_or out (suc i) 0 ∷ drop (suc (suc i)) (set out (suc i) c))) (take-suc-set out (suc i) c w)
-          ∙ ap (λ (q : List ℕ). (take (suc i) out ++ (c ∷ [])) ++ (get_or out (suc i) 0 ∷ q)) (drop-set-lt (suc (suc i)) out (suc i) c (omega arith))
-          ∙ append_snoc (take (suc i) out) c (get_or out (suc i) 0 ∷ drop (suc (suc i)) out)
-          ∙ ap (λ (q : List ℕ). take (suc i) out ++ (c ∷ q)) (sym (drop-cons out (suc i) 0 w))
-          ∙ s.whole;
-      rest = drop-set-lt (suc (suc i)) out (suc i) c (omega arith) ∙ drop_more (suc i) out held s.rest;
-      long = length-set out (suc i) c ∙ s.long;
-    })
+past : (b z : List ℕ) (x m : ℕ) → m ≡ suc (length b) → drop m (b ++ (x ∷ z)) ≡ z
+past b z x m e = ap (λ (k : ℕ). drop k (b ++ (x ∷ z))) e ∙ go b
   where
-    w : suc i < length out
-    w = rw s.long h
+    go : (b : List ℕ) → drop (suc (length b)) (b ++ (x ∷ z)) ≡ z
+    go [] = refl
+    go (y ∷ b) = go b
 
-    drop_more : (j : ℕ) (a b : List ℕ) → drop j a ≡ drop j b → drop (suc j) a ≡ drop (suc j) b
-    drop_more j a b e = ap (λ (k : ℕ). drop k a) (sym (add-one j)) ∙ sym (drop-drop 1 j a) ∙ ap (λ (q : List ℕ). drop 1 q) e ∙ drop-drop 1 j b ∙ ap (λ (k : ℕ). drop k b) (add-one j)
+headed : (a b z q : List ℕ) (x v : ℕ) → set (take (suc (length a)) (a ++ (b ++ (x ∷ z))) ++ q) (length a) v ≡ a ++ (v ∷ q)
+headed [] [] z q x v = refl
+headed [] (y ∷ b) z q x v = refl
+headed (y ∷ a) b z q x v = ap (λ (l : List ℕ). y ∷ l) (headed a b z q x v)
 
-pub zeros_snoc : (k : ℕ) → zeros (suc k) ≡ zeros k ++ (0 ∷ [])
-zeros_snoc k = ap zeros (sym (add-one k)) ∙ sym (replicate-append-replicate {A = ℕ} k 1 0)
+shifted : (a b z : List ℕ) (x v k j m : ℕ) → k ≡ length a → j ≡ length b → m ≡ suc k + j → (l : List ℕ) → l ≡ a ++ (b ++ (x ∷ z))
+    → set (take (k + 1) l ++ (take j (drop k l) ++ drop m l)) k v ≡ a ++ (v ∷ (b ++ z))
+shifted a b z x v k j m f g h l e =
+    let after : take j (drop k l) ≡ b =
+    ap (λ (q : List ℕ). take j (drop k q)) e ∙ ap (λ (q : List ℕ). take j q) (drop_at a (b ++ (x ∷ z)) k (sym f)) ∙ take_at b (x ∷ z) j (sym g) in
+    let rest : drop m l ≡ z =
+    ap (λ (q : List ℕ). drop m q) (e ∙ sym (append_assoc a b (x ∷ z))) ∙ past (a ++ b) z x m (omega (arith, length-append a b)) in
+    ap (λ (q : List ℕ). set (take (k + 1) l ++ (q ++ drop m l)) k v) after
+    ∙ ap (λ (q : List ℕ). set (take (k + 1) l ++ (b ++ q)) k v) rest
+    ∙ ap (λ (q : List ℕ). set (take (k + 1) q ++ (b ++ z)) k v) e
+    ∙ ap (λ (i : ℕ). set (take i (a ++ (b ++ (x ∷ z))) ++ (b ++ z)) k v) (add-one k)
+    ∙ ap (λ (i : ℕ). set (take (suc i) (a ++ (b ++ (x ∷ z))) ++ (b ++ z)) i v) f
+    ∙ headed a b z (b ++ z) x v
 
-module _ (s : List ℕ) (v at : ℕ) (h : length s < 6) (a : at ≤ length s) (p : put_in v s ≡ take at s ++ (v ∷ drop at s)) where
-  abbrev k : ℕ
-  k = 5 - length s
+row_more : (s : List ℕ) (v at : ℕ) → length s < 6 → at ≤ length s → put_in v s ≡ take at s ++ (v ∷ drop at s)
+    → set (set (paste (row s) (at + 1 + 1) (drop (at + 1) (row s)) (length s + 1 - (at + 1))) (at + 1) v) 0 (length s + 1) ≡ row (put_in v s)
+unfolding row padded
+row_more s v at h k p =
+    let a = take at s in
+    let b = drop at s in
+    let z = zeros (5 - length s) in
+    let held = length s ∷ a in
+    let six : 6 - length s ≡ suc (5 - length s) = omega arith in
+    let e : row s ≡ held ++ (b ++ (0 ∷ z)) =
+    ap (λ (q : List ℕ). length s ∷ (q ++ zeros (6 - length s))) (sym (take-append-drop at s))
+    ∙ ap (λ (q : List ℕ). length s ∷ q) (append_assoc a b (zeros (6 - length s)))
+    ∙ ap (λ (j : ℕ). held ++ (b ++ zeros j)) six in
+    let la : length held ≡ at + 1 = ap suc (length-take-le at s k) ∙ sym (add-one at) in
+    let lb : length b ≡ length s + 1 - (at + 1) = length-drop at s ∙ (let w : length s - at ≡ length s + 1 - (at + 1) = omega arith in w) in
+    let l : length (put_in v s) ≡ length s + 1 = length_insert v s ∙ sym (add-one (length s)) in
+    let left : set (paste (row s) (at + 1 + 1) (drop (at + 1) (row s)) (length s + 1 - (at + 1))) (at + 1) v ≡ held ++ (v ∷ (b ++ z)) =
+    ap (λ (q : List ℕ). set q (at + 1) v)
+    (append_assoc (take (at + 1 + 1) (row s)) (take (length s + 1 - (at + 1)) (drop (at + 1) (row s))) (drop (at + 1 + 1 + (length s + 1 - (at + 1))) (row s)))
+    ∙ shifted held b z 0 v (at + 1) (length s + 1 - (at + 1)) (at + 1 + 1 + (length s + 1 - (at + 1))) (sym la) (sym lb) (omega arith) (row s) e in
+    ap (λ (q : List ℕ). set q 0 (length s + 1)) left
+    ∙ ap (λ (q : List ℕ). (length s + 1) ∷ q) (sym (append_assoc a (v ∷ b) z))
+    ∙ ap (λ (q : List ℕ). (length s + 1) ∷ (q ++ z)) (sym p)
+    ∙ ap (λ (j : ℕ). (length s + 1) ∷ (put_in v s ++ zeros j)) (let w : 5 - length s ≡ 6 - length (put_in v s) = omega arith in w)
+    ∙ ap (λ (j : ℕ). j ∷ (put_in v s ++ zeros (6 - length (put_in v s)))) (sym l)
 
-  abbrev Z : List ℕ
-  Z = zeros (6 - length s)
-
-  z_snoc : Z ≡ zeros k ++ (0 ∷ [])
-  z_snoc = ap zeros (let w : 6 - length s ≡ suc (5 - length s) = omega arith in w) ∙ zeros_snoc (5 - length s)
-
-  ins_length : length (put_in v s) ≡ suc (length s)
-  ins_length = length_insert v s
-
-  right_side : take (suc at) (row s) ++ (v ∷ drop (suc at) (row s)) ≡ (length s ∷ (put_in v s ++ zeros k)) ++ (0 ∷ [])
-  unfolding row padded
-  right_side =
-      ap (λ (q : List ℕ). length s ∷ (q ++ (v ∷ drop at (s ++ Z)))) (take-append-le at s Z a)
-      ∙ ap (λ (q : List ℕ). length s ∷ (take at s ++ (v ∷ q))) (drop-append-le at s Z a)
-      ∙ ap (λ (q : List ℕ). length s ∷ q) (sym (append_assoc (take at s) (v ∷ drop at s) Z))
-      ∙ ap (λ (q : List ℕ). length s ∷ (q ++ Z)) (sym p)
-      ∙ ap (λ (q : List ℕ). length s ∷ (put_in v s ++ q)) z_snoc
-      ∙ ap (λ (q : List ℕ). length s ∷ q) (sym (append_assoc (put_in v s) (zeros k) (0 ∷ [])))
-
-  pub shift_end : (n c : ℕ) (out : List ℕ) → n ≡ length s → Shift (row s) v at n c out → set (set out (n + 1) c) 0 (n + 1) ≡ row (put_in v s)
-  unfolding row padded
-  shift_end n c out e t = ap (λ (j : ℕ). set (set out j c) 0 j) (add-one n ∙ ap suc e) ∙ ap (λ (q : List ℕ). set q 0 (suc (length s))) main ∙ last_step
-    where
-      t' : Shift (row s) v at (length s) c out
-      t' = subst (λ (j : ℕ). Shift (row s) v at j c out) e t
-
-      lo : length out ≡ 7
-      lo = t'.long ∙ length_row s (let w : length s ≤ 6 = omega arith in w)
-
-      tail : drop (suc (length s)) out ≡ Z
-      tail = t'.rest ∙ drop-append_seam s (zeros (6 - length s))
-
-      lx : length (take (suc (length s)) out) ≡ suc (length s)
-      lx = length-take-le (suc (length s)) out (let w = lo in omega arith)
-
-      lk : length (c ∷ zeros k) ≡ 6 - length s
-      lk = ap suc (length_zeros (5 - length s)) ∙ (let w : suc (5 - length s) ≡ 6 - length s = omega arith in w)
-
-      left_side : take (suc (length s)) out ++ (c ∷ drop (suc (length s)) out) ≡ (take (suc (length s)) out ++ (c ∷ zeros k)) ++ (0 ∷ [])
-      left_side = ap (λ (q : List ℕ). take (suc (length s)) out ++ (c ∷ q)) (tail ∙ z_snoc) ∙ sym (append_assoc (take (suc (length s)) out) (c ∷ zeros k) (0 ∷ []))
-
-      both_sides : (take (suc (length s)) out ++ (c ∷ zeros k)) ++ (0 ∷ []) ≡ (length s ∷ (put_in v s ++ zeros k)) ++ (0 ∷ [])
-      both_sides = sym left_side ∙ t'.whole ∙ right_side
-
-      seven : length (take (suc (length s)) out ++ (c ∷ zeros k)) ≡ 7
-      seven = length-append (take (suc (length s)) out) (c ∷ zeros k) ∙ (let p = lx in let q = lk in let w : length (take (suc (length s)) out) + length (c ∷ zeros k) ≡ 7 = omega arith in w)
-
-      seven' : length (length s ∷ (put_in v s ++ zeros k)) ≡ 7
-      seven' = ap suc (length-append (put_in v s) (zeros k) ∙ (let p = ins_length in let q = length_zeros k in let r = lk in let w : length (put_in v s) + length (zeros k) ≡ 6 = omega arith in w))
-
-      equal : take (suc (length s)) out ++ (c ∷ zeros k) ≡ length s ∷ (put_in v s ++ zeros k)
-      equal = sym (take_at (take (suc (length s)) out ++ (c ∷ zeros k)) (0 ∷ []) 7 seven) ∙ ap (λ (q : List ℕ). take 7 q) both_sides ∙ take_at (length s ∷ (put_in v s ++ zeros k)) (0 ∷ []) 7 seven'
-
-      after : drop (suc (suc (length s))) out ≡ zeros k
-      after = ap (λ (j : ℕ). drop j out) (sym (add-one (suc (length s)))) ∙ sym (drop-drop 1 (suc (length s)) out)
-          ∙ ap (λ (q : List ℕ). drop 1 q) (tail ∙ ap zeros (let w : 6 - length s ≡ suc (5 - length s) = omega arith in w))
-
-      main : set out (suc (length s)) c ≡ length s ∷ (put_in v s ++ zeros k)
-      main = set_split out (suc (length s)) c (let w = lo in omega arith) ∙ ap (λ (q : List ℕ). take (suc (length s)) out ++ (c ∷ q)) after ∙ equal
-
-      last_step : set (length s ∷ (put_in v s ++ zeros k)) 0 (suc (length s)) ≡ row (put_in v s)
-      last_step = ap (λ (j : ℕ). suc (length s) ∷ (put_in v s ++ zeros j))
-          (let q = ins_length in let w : 5 - length s ≡ 6 - length (put_in v s) = omega arith in w)
-          ∙ ap (λ (j : ℕ). j ∷ padded 6 (put_in v s)) (sym ins_length)
-
-pub shift_begin : (held : List ℕ) (v at : ℕ) → Shift held v at at v held
-shift_begin held v at = record { whole = refl; rest = refl; long = refl }
-
-pub shift_close : (held : List ℕ) (v at n i c : ℕ) (out : List ℕ) → at ≤ i → n ≡ get_or held 0 0 → i ≤ n → n ≤ i
-    → ((s : List ℕ) → held ≡ row s → length s < 6 → put_in v s ≡ take at s ++ (v ∷ drop at s))
-    → Shift held v at i c out → (s : List ℕ) → held ≡ row s → length s < 6 → set (set out (n + 1) c) 0 (get_or held 0 0 + 1) ≡ row (put_in v s)
-shift_close held v at n i c out a e h1 h2 p t s r h =
-    let l : n ≡ length s = e ∙ ap (λ (q : List ℕ). get_or q 0 0) r ∙ row_head s in
-    let j : i ≡ n = omega arith in
-    let u : Shift held v at n c out = subst (λ (k : ℕ). Shift held v at k c out) j t in
-    ap (λ (k : ℕ). set (set out (n + 1) c) 0 (k + 1)) (sym e)
-    ∙ shift_end s v at h (let w : at ≤ length s = omega arith in w) (p s r h) n c out l (subst (λ (q : List ℕ). Shift q v at n c out) r u)
+pub row_put : (held : List ℕ) (v at n : ℕ) → n ≡ get_or held 0 0 → at ≡ position_or_len (λ (x : ℕ). ltb v x) (take (n + 1 - 1) (drop 1 held)) → (s : List ℕ)
+    → held ≡ row s → length s < 6 → set (set (copy_within held (at + 1) (n + 1) (at + 1 + 1)) (at + 1) v) 0 (n + 1) ≡ row (put_in v s)
+row_put held v at n l e s r h =
+    let k : n ≡ length s = l ∙ ap (λ (q : List ℕ). get_or q 0 0) r ∙ row_head s in
+    let m : take (n + 1 - 1) (drop 1 held) ≡ s =
+    ap (λ (j : ℕ). take j (drop 1 held)) (let w : n + 1 - 1 ≡ length s = omega arith in w) ∙ ap (λ (q : List ℕ). take (length s) (drop 1 q)) r ∙ row_members s in
+    let p : at ≡ position_or_len (λ (x : ℕ). ltb v x) s = e ∙ ap (λ (q : List ℕ). position_or_len (λ (x : ℕ). ltb v x) q) m in
+    let f : put_in v s ≡ take at s ++ (v ∷ drop at s) = put_in_at v s ∙ ap (λ (j : ℕ). take j s ++ (v ∷ drop j s)) (sym p) in
+    ap (λ (j : ℕ). set (set (copy_within held (at + 1) (j + 1) (at + 1 + 1)) (at + 1) v) 0 (j + 1)) k
+    ∙ ap (λ (q : List ℕ). set (set (copy_within q (at + 1) (length s + 1) (at + 1 + 1)) (at + 1) v) 0 (length s + 1)) r
+    ∙ row_more s v at h (rw p (prefix_len-le-length (λ (x : ℕ). not (ltb v x)) s)) f

@@ -1,6 +1,6 @@
 -- Lists in their places, and the set that stands on them, looked at in order of making.
 use Prim.Native.Nat.{ℕ, zero, suc, ◌+◌, ◌-◌, ◌*◌, ◌≤◌, ◌<◌}
-use mathlib.Core.Path.{◌≡◌, refl, sym, ◌∙◌, ap, subst}
+use mathlib.Core.Path.{◌≡◌, refl, sym, ◌∙◌, ap}
 use mathlib.Core.List.{List, [], ◌∷◌, ◌++◌, map, reverse, reverse-append, Memᴰ}
 use native.Mathlib.Omega.{arith}
 use native.Mathlib.Numerals.{add-one}
@@ -35,22 +35,19 @@ pub padded_at : (n : ℕ) (xs : List ℕ) (j : ℕ) → j < length xs → get_or
 unfolding padded
 padded_at n xs j h = get_or-append xs (zeros (n - length xs)) 0 j h
 
-module _ (a : List ℕ) (n count : ℕ) (ns : List ℕ) (ms : List Extensions) (rest : List ℕ) (st : Stood a n count ns ms rest) (k : ℕ) (h : k < count) where
+module _ (a : List ℕ) (n : ℕ) (ns : List ℕ) (ms : List Extensions) (rest : List ℕ) (st : Stood a n ns ms rest) (k : ℕ) (h : k < length ns) where
   abbrev top : Extensions
   top = get_or ms k no_list
 
   inside : k < length ms
-  inside = omega (arith, st.count)
+  inside = omega (arith, ap (λ (q : List ℕ). length q) st.nexts, length-map ms (λ (l : Extensions). l.next))
 
   used : ListUsed n top
   used = st.used top (get_d_member ms k no_list inside)
 
   next_is : get_or ns k 0 ≡ top.next
   unfolding no_list
-  next_is =
-      ap (λ (q : List ℕ). get_or q k 0) st.nexts
-      ∙ padded_at 6 (map (λ (l : Extensions). l.next) ms) k (rw (length-map ms (λ (l : Extensions). l.next)) inside)
-      ∙ get_or-map (λ (l : Extensions). l.next) ms k no_list
+  next_is = ap (λ (q : List ℕ). get_or q k 0) st.nexts ∙ get_or-map (λ (l : Extensions). l.next) ms k no_list
 
   width : (l : Extensions) → Memᴰ l ms → length (padded n l.entries) ≡ n
   width l m = length_padded n l.entries (st.used l m).short
@@ -92,12 +89,11 @@ module _ (a : List ℕ) (n count : ℕ) (ns : List ℕ) (ms : List Extensions) (
   pub set_length : length (set_on (reverse (take k ms))) ≡ k
   set_length = omega (arith, length_set_on (reverse (take k ms)), length-reverse (take k ms), length-take-le k ms (let w : k ≤ length ms = omega (arith, inside) in w))
 
-  pub sum_next : (m : ℕ) → m ≡ get_or ns k 0 → (held r : List ℕ) → Sum ms k held
-      → ((s : List ℕ) → held ≡ row s → length s < 6 → r ≡ row (put_in (get_or a (k * n + m - 1) 0) s)) → Sum ms (k + 1) r
-  sum_next m e held r s f = record {
+  pub sum_next : (held r : List ℕ) → Sum ms k held
+      → ((s : List ℕ) → held ≡ row s → length s < 6 → r ≡ row (put_in (get_or a (k * n + get_or ns k 0 - 1) 0) s)) → Sum ms (k + 1) r
+  sum_next held r s f = record {
     so =
         f (set_on (reverse (take k ms))) s.so (omega (arith, set_length, st.deep, inside))
-        ∙ ap (λ (j : ℕ). row (put_in (get_or a (k * n + j - 1) 0) (set_on (reverse (take k ms))))) e
         ∙ ap (λ (v : ℕ). row (put_in v (set_on (reverse (take k ms))))) read_is
         ∙ ap row (sym more);
   }
@@ -109,18 +105,19 @@ pub sum_begin : (ms : List Extensions) → Sum ms 0 (zeros 7)
 unfolding row padded set_on
 sum_begin ms = record { so = refl }
 
-pub sum_end : (ms : List Extensions) (k count : ℕ) (held : List ℕ) → Sum ms k held → count ≡ length ms → count ≤ k → held ≡ row (set_on (reverse ms))
-sum_end ms k count held s e h = s.so ∙ ap (λ (q : List Extensions). row (set_on (reverse q))) (take_all k ms (let w : length ms ≤ k = omega arith in w))
+pub sum_end : (a : List ℕ) (n : ℕ) (ns : List ℕ) (ms : List Extensions) (rest : List ℕ) → Stood a n ns ms rest
+    → (k : ℕ) (held : List ℕ) → Sum ms k held → length ns ≤ k → held ≡ row (set_on (reverse ms))
+sum_end a n ns ms rest st k held s h =
+    let l : length ns ≡ length ms = ap (λ (q : List ℕ). length q) st.nexts ∙ length-map ms (λ (l : Extensions). l.next) in
+    s.so ∙ ap (λ (q : List Extensions). row (set_on (reverse q))) (take_all k ms (let w : length ms ≤ k = omega arith in w))
 
 -- what the reading of the placement last taken asks
 pub record Reads (a : List ℕ) (n k m : ℕ) : Type 0 where
   pub one : 0 < m
   pub inside : k * n + m - 1 < length a
 
-pub reads_ok : (a : List ℕ) (n count : ℕ) (ns : List ℕ) (p : SomeStood a n count ns) (k : ℕ) → k < count → (m : ℕ) → m ≡ get_or ns k 0 → Reads a n k m
-reads_ok a n count ns p k h m e =
-    subst (λ (j : ℕ). Reads a n k j) (sym e)
-    (record {
-      one = omega (arith, (used a n count ns p.ms p.rest p.stood k h).taken, next_is a n count ns p.ms p.rest p.stood k h);
-      inside = in_area a n count ns p.ms p.rest p.stood k h;
-    })
+pub reads_ok : (a : List ℕ) (n : ℕ) (ns : List ℕ) (p : SomeStood a n ns) (k : ℕ) → k < length ns → Reads a n k (get_or ns k 0)
+reads_ok a n ns p k h = record {
+  one = omega (arith, (used a n ns p.ms p.rest p.stood k h).taken, next_is a n ns p.ms p.rest p.stood k h);
+  inside = in_area a n ns p.ms p.rest p.stood k h;
+}

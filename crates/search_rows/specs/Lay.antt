@@ -19,16 +19,15 @@ pub record ListUsed (n : ℕ) (l : Extensions) : Type 0 where
   pub inside : l.next ≤ length l.entries
   pub short : length l.entries ≤ n
 
--- k lists, in order of making, stand n apart in an area
-pub record Stood (area : List ℕ) (n k : ℕ) (ns : List ℕ) (ms : List Extensions) (rest : List ℕ) : Type 0 where
+-- lists, in order of making, stand n apart in an area; ns says how many entries of each have been taken
+pub record Stood (area : List ℕ) (n : ℕ) (ns : List ℕ) (ms : List Extensions) (rest : List ℕ) : Type 0 where
   pub laid : area ≡ flat (map (λ (l : Extensions). padded n l.entries) ms) ++ rest
-  pub count : k ≡ length ms
-  pub nexts : ns ≡ padded 6 (map (λ (l : Extensions). l.next) ms)
+  pub nexts : ns ≡ map (λ (l : Extensions). l.next) ms
   pub deep : length ms ≤ 6
   pub used : (l : Extensions) → Memᴰ l ms → ListUsed n l
 
-pub record SomeStood (area : List ℕ) (n k : ℕ) (ns : List ℕ) : Type 0 where
+pub record SomeStood (area : List ℕ) (n : ℕ) (ns : List ℕ) : Type 0 where
   pub small : n ≤ 6144
   pub ms : List Extensions
   pub rest : List ℕ
-  pub stood : Stood area n k ns ms rest
+  pub stood : Stood area n ns ms rest

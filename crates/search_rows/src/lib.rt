@@ -1,8 +1,8 @@
 // Sets as rows, lists and kept points in the areas of a search.
 #![tactic(auto)]
 
-ghost use Rattle.std.specs.Prelude.{◌≡◌, true, List, ◌∷◌, ◌++◌, map, reverse, ℕ, ◌+◌, ◌*◌, ◌≤◌, ◌<◌, pos, length, take, drop, get_or};
-ghost use Rattle.base_laws.specs.Ints.{up};
+ghost use Rattle.std.specs.Prelude.{◌≡◌, true, List, map, reverse, ℕ, ◌+◌, ◌*◌, ◌≤◌, ◌<◌, ltb, length, take, drop, get_or};
+ghost use Rattle.std.specs.List.{position_or_len};
 ghost use Rattle.base_laws.specs.Lists.{any_of, same, put_in, total};
 ghost use Rattle.base_laws.specs.Fill.{over};
 ghost use Rattle.ground_rects.specs.Windows.{centres, window_fits, position_of};
@@ -10,15 +10,8 @@ ghost use Rattle.rule_search.specs.State.{Extensions, set_on};
 ghost use Rattle.rule_calls.specs.Areas.{row, numbers};
 ghost use Rattle.search_rows.specs.Lay.{Seek, Stood, SomeStood};
 
-use base_model::{LAYOUTS, Position, ROW, Rect, SLOTS, index, member};
+use base_model::{Position, ROW, Rect};
 use ground_rects::width;
-
-// A number as an index, and that it is below 2^32.
-pub fn bounded(n: u32) -> usize
-    ensures { (result ≡ n) × (result < 4294967296) }
-{
-    index(n)
-}
 
 // Whether the seven entries from `at` on are the row. Sets that a search visits one after the other differ in their last members, so these
 // are looked at first.
@@ -26,9 +19,7 @@ fn same_row(area: &[u16], at: usize, set: [u16; ROW]) -> bool
     requires { at + 7 ≤ length area.now }
     ensures { result ≡ same set (take 7 (drop at area.now)) }
 {
-    let mut i: usize = ROW;
-    while 0 < i {
-        i = i - 1;
+    for i in (0..ROW).rev() {
         if set[i] != area[at + i] {
             return false;
         }
@@ -42,68 +33,44 @@ pub fn among(area: &[u16], count: usize, set: [u16; ROW]) -> bool
     ensures { (s : List ℕ) (vs : List (List ℕ)) (rest : List ℕ) → Seek area.now count set s vs rest
         → result ≡ any_of (same s) vs }
 {
-    let mut j = 0;
-    while j < count {
+    for j in 0..count {
         if same_row(area, j * ROW, set) {
             return true;
         }
-        j = j + 1;
     }
     false
 }
 
-// Where a placement goes in a row.
-fn position(set: [u16; ROW], v: u16) -> usize
-    requires { get_or set 0 0 < 6 }
-    ensures upper_bound { result ≤ get_or set 0 0 }
-    ensures by_index { (s : List ℕ) → set ≡ row s → length s < 6 → put_in v s ≡ take result s ++ (v ∷ drop result s) }
+// Where a placement goes among the members of a set: before the first that is above it.
+fn position(members: &[u16], v: u16) -> usize
+    ensures within { result ≤ length members.now }
+    ensures first { result ≡ position_or_len (λ (x : ℕ). ltb v x) members.now }
 {
-    let n = member(set[0]);
-    let mut i: usize = 0;
-    while i < n {
-        if v < set[i + 1] {
-            return i;
-        }
-        i = i + 1;
-    }
-    i
+    members.iter().position(|x| v < *x).unwrap_or(members.len())
 }
 
-// A placement put into a row.
-fn insert(set: [u16; ROW], v: u16) -> [u16; ROW]
-    requires { get_or set 0 0 < 6 }
-    ensures { (s : List ℕ) → set ≡ row s → length s < 6 → result ≡ row (put_in v s) }
+// A placement is put into a row.
+fn insert(set: &mut [u16; ROW], v: u16)
+    requires { get_or set.old 0 0 < 6 }
+    ensures { (s : List ℕ) → set.old ≡ row s → length s < 6 → set.new ≡ row (put_in v s) }
 {
-    let at = position(set, v);
     let n = set[0];
-    let end = member(n);
-    let mut out = set;
-    let mut c = v;
-    let mut i: usize = at;
-    while i < end {
-        let t = out[i + 1];
-        out[i + 1] = c;
-        c = t;
-        i = i + 1;
-    }
-    out[end + 1] = c;
-    out[0] = n + 1;
-    out
+    let end = n as usize + 1;
+    let at = position(&set[1..end], v) + 1;
+    set.copy_within(at..end, at + 1);
+    set[at] = v;
+    set[0] = n + 1;
 }
 
-// The set that stands on the first lists, which begin `places` apart.
-pub fn set_on(lists: &[u16], places: usize, count: usize, nexts: [u32; SLOTS]) -> [u16; ROW]
-    requires { SomeStood lists.now places count nexts }
-    ensures { (ms : List Extensions) (rest : List ℕ) → Stood lists.now places count nexts ms rest
+// The set that stands on the lists, which begin `places` apart; `nexts` says how many entries of each have been taken.
+pub fn set_on(lists: &[u16], places: usize, nexts: &[u32]) -> [u16; ROW]
+    requires { SomeStood lists.now places nexts.now }
+    ensures { (ms : List Extensions) (rest : List ℕ) → Stood lists.now places nexts.now ms rest
         → result ≡ row (set_on (reverse ms)) }
 {
-    let mut set = [0u16; ROW];
-    let mut k = 0;
-    while k < count {
-        let n = index(nexts[k]);
-        let more = insert(set, lists[k * places + n - 1]);
-        set = more;
-        k = k + 1;
+    let mut set = [0; ROW];
+    for (k, next) in nexts.iter().enumerate() {
+        insert(&mut set, lists[k * places + *next as usize - 1]);
     }
     set
 }
@@ -114,34 +81,15 @@ pub fn put_row(area: &mut [u16], k: usize, set: [u16; ROW])
     ensures { area.new ≡ over area.old (k * 7) set }
 {
     let at = k * ROW;
-    let mut i = 0;
-    while i < ROW {
-        area[at + i] = set[i];
-        i = i + 1;
-    }
+    area[at..at + ROW].copy_from_slice(&set);
 }
 
-// How many points the first n routes have together.
-pub fn kept_points(routes: [u32; LAYOUTS], n: usize) -> usize
-    requires { n ≤ 32 }
-    ensures { result ≡ total (take n routes) }
+// How many points the routes have together.
+pub fn kept_points(routes: &[u32]) -> usize
+    requires { length routes.now ≤ 32 }
+    ensures { result ≡ total routes.now }
 {
-    let mut sum: usize = 0;
-    let mut i = 0;
-    while i < n {
-        let more = bounded(routes[i]);
-        sum = sum + more;
-        i = i + 1;
-    }
-    sum
-}
-
-// An edge that is not negative.
-fn edge(x: i32) -> u32
-    requires { x ≡ pos (up x) }
-    ensures { result ≡ up x }
-{
-    x as u32
+    routes.iter().map(|n| *n as usize).sum()
 }
 
 // The map pixel of a centre.
@@ -150,24 +98,21 @@ fn position_of(window: Rect, c: u32) -> Position
     ensures { result ≡ position_of window c }
 {
     let w = width(window) as u32;
-    let x = edge(window.left) + c % w;
-    let y = edge(window.top) + c / w;
-    Position { x: x, y: y }
+    let x = window.left as u32 + c % w;
+    let y = window.top as u32 + c / w;
+    Position { x, y }
 }
 
-// The map pixels of the first n centres of a route, from `at` on.
-pub fn route_positions(points: &mut [u32], at: usize, route: &[u32], n: usize, window: Rect)
+// The map pixels of a route's centres, from `at` on.
+pub fn route_positions(points: &mut [u32], at: usize, route: &[u32], window: Rect)
     requires window_value { window_fits 8192 8192 window ≡ true }
-    requires n_in_bounds { (at + 2 * n ≤ length points.old) × (n ≤ length route.now) }
-    requires by_index { (i : ℕ) → i < n → get_or route.now i 0 < centres window }
-    ensures { points.new
-        ≡ over points.old at (numbers (map (position_of window) (take n route.now))) }
+    requires n_in_bounds { at + 2 * length route.now ≤ length points.old }
+    requires by_index { (i : ℕ) → i < length route.now → get_or route.now i 0 < centres window }
+    ensures { points.new ≡ over points.old at (numbers (map (position_of window) route.now)) }
 {
-    let mut i = 0;
-    while i < n {
-        let p = position_of(window, route[i]);
+    for (i, c) in route.iter().enumerate() {
+        let p = position_of(window, *c);
         points[at + 2 * i] = p.x;
         points[at + 2 * i + 1] = p.y;
-        i = i + 1;
     }
 }

@@ -1,24 +1,15 @@
 -- The answers to the goals of `search_rows::among`.
-use mathlib.Core.Path.{refl, sym, ◌∙◌}
-use native.Mathlib.Omega.{arith}
+use mathlib.Core.Path.{sym, ◌∙◌}
 use Rattle.search_rows.proofs.Sets.{found, passed, none_left}
 use Rattle.search_rows.proofs.among.Goals as goal
 
-pub loop-j-init : goal.loop-j-init
-loop-j-init c = (omega arith, λ s vs z k. record { on = refl })
-
 pub returns-then-same_row : goal.returns-then-same_row
-returns-then-same_row c = λ s vs z k. sym
-    (found _ _ _ s vs z k c.loop-j.j (c.loop-j.invariant.1 s vs z k)
-    c.loop-j-test.true (sym c.same_row.ensures ∙ c.if-same_row.true))
+returns-then-same_row c =
+    λ s vs z k. sym (found _ _ _ s vs z k c.loop-j.j (c.loop-j.invariant s vs z k) c.loop-j-test.true (sym c.same_row.ensures ∙ c.if-same_row.true))
 
 pub loop-j-preserved : goal.loop-j-preserved
-loop-j-preserved c = (
-  omega arith,
-  λ s vs z
-      k. passed _ _ _ s vs z k c.loop-j.j (c.loop-j.invariant.1 s vs z k)
-      c.loop-j-test.true (sym c.same_row.ensures ∙ c.if-same_row.false),
-)
+loop-j-preserved c =
+    λ s vs z k. passed _ _ _ s vs z k c.loop-j.j (c.loop-j.invariant s vs z k) c.loop-j-test.true (sym c.same_row.ensures ∙ c.if-same_row.false)
 
 pub returns : goal.returns
-returns c = λ s vs z k. sym (none_left _ _ _ s vs z k c.loop-j.j (c.loop-j.invariant.1 s vs z k) c.loop-j-test.false)
+returns c = λ s vs z k. sym (none_left _ _ _ s vs z k c.loop-j.j (c.loop-j.invariant s vs z k) c.loop-j-test.false)

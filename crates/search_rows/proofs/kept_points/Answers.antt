@@ -1,29 +1,14 @@
--- The answers to the goals of `search_rows::kept_points`.
-use mathlib.Core.Path.{◌≡◌, refl, ◌∙◌, ap}
-use Prim.Native.Nat.{ℕ}
-use native.Mathlib.Numerals.{add-one}
-use native.Mathlib.Omega.{arith}
-use lib.ListN.{take}
+-- `search_rows::kept_points` meets its contract: the sum is the total.
+use mathlib.Core.Path.{◌≡◌, refl, sym, ◌∙◌}
+use Rattle.std.proofs.Common.{rules}
+use Rattle.std.proofs.iter.runs.Made.{chains}
+use Rattle.std.proofs.lemmas.List.Recursion.{is_sum_by}
+use Rattle.std.specs.List.{sum}
 use Rattle.base_laws.specs.Lists.{total}
-use Rattle.rule_calls.proofs.Whole.{total_suc}
 use Rattle.search_rows.proofs.kept_points.Goals as goal
 
-pub loop-i-init : goal.loop-i-init
-unfolding total
-loop-i-init c = (omega arith, omega arith, refl)
-
-pub overflow_add-sum : goal.overflow_add-sum
-overflow_add-sum c = omega (arith, c.bounded-more.ensures.1)
-
-pub loop-i-preserved : goal.loop-i-preserved
-loop-i-preserved c = (
-  omega arith,
-  omega (arith, c.bounded-more.ensures.1),
-  (let e = total_suc c.args.routes c.loop-i.i (omega (arith, c.well_formed.0.1.0.1)) in
-      let f = c.bounded-more.ensures.0 in rw (add-one c.loop-i.i) (omega arith)),
-)
-
 pub returns : goal.returns
+unfolding total
 returns c =
-    let e : c.loop-i.i ≡ c.args.n = omega arith in
-    c.loop-i.invariant.2 ∙ ap (λ (k : ℕ). total (take k c.args.routes)) e
+    let e : c.sum.result ≡ sum c.args.routes.now = search (rules, chains) in
+    e ∙ sym (is_sum_by total (λ x. x) refl (λ x xs. refl) c.args.routes.now)

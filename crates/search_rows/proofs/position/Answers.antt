@@ -1,32 +1,22 @@
--- The answers to the goals of `search_rows::position`.
-use mathlib.Core.Path.{refl}
-use native.Mathlib.Omega.{arith}
-use Rattle.search_rows.proofs.Sets.{place_here, place_on, place_end}
+-- `search_rows::position` meets its contract: what the iterator finds, and the end where it finds nothing.
+use Prim.Native.Nat.{ℕ}
+use mathlib.Core.Path.{◌≡◌, ◌∙◌, ap}
+use mathlib.Core.Bool.{not}
+use lib.Dec.{ltb}
+use lib.ListN.{length}
+use Rattle.std.proofs.Common.{rules, tests, refl}
+use Rattle.std.proofs.lemmas.Iterator.{YieldsList-from_slice}
+use Rattle.std.proofs.lemmas.Iterator.Search.{position_from_yields_List}
+use Rattle.std.proofs.lemmas.List.Sums.{prefix_len-le-length}
+use Rattle.std.specs.Option.{unwrap_or}
+use Rattle.std.specs.List.{position, position_or_len}
+use Rattle.search_rows.proofs.Sets.{or_len}
 use Rattle.search_rows.proofs.position.Goals as goal
 
-pub loop-i-init : goal.loop-i-init
-loop-i-init c = (omega arith, λ s r. record { so = refl })
-
-pub returns-then-v-set : goal.returns-then-v-set
-returns-then-v-set c = record {
-  upper_bound = omega arith;
-  by_index = λ s r
-      h. place_here c.args.set c.args.v _ c.loop-i.i
-      c.member-n.ensures s r (c.loop-i.invariant.1 s r) c.loop-i-test.true c.if-v-set.true;
-}
-
-pub loop-i-preserved : goal.loop-i-preserved
-loop-i-preserved c = (
-  omega arith,
-  λ s
-      r. place_on c.args.set c.args.v _ c.loop-i.i
-      c.member-n.ensures s r (c.loop-i.invariant.1 s r) c.loop-i-test.true c.if-v-set.false,
-)
-
 pub returns : goal.returns
-returns c = record {
-  upper_bound = omega arith;
-  by_index = λ s r
-      h. place_end c.args.set c.args.v _ c.loop-i.i
-      c.member-n.ensures s r (c.loop-i.invariant.1 s r) c.loop-i-test.false;
-}
+returns c =
+    let xs = c.args.members.now in
+    let p = λ (x : ℕ). ltb c.args.v x in
+    let f : c.position.result ≡ position p xs = position_from_yields_List p _ _ _ c.position.ensures.ran (YieldsList-from_slice xs (cc)) (λ x b q k. search (rules, tests)) in
+    let e : c.unwrap_or.result ≡ position_or_len p xs = c.unwrap_or.ensures ∙ ap (λ o. unwrap_or o (length xs)) f ∙ or_len p xs (length xs) refl in
+    record { within = rw e (prefix_len-le-length (λ (x : ℕ). not (ltb c.args.v x)) xs); first = e }

@@ -1,16 +1,18 @@
--- The answers to the goals of `search_rows::put_row`.
-use mathlib.Core.Path.{refl, ◌∙◌}
+-- `search_rows::put_row` meets its contract: seven entries were lent, and are the row's.
+use Prim.Native.Nat.{◌+◌, ◌-◌, ◌*◌}
+use mathlib.Core.Path.{ap, ◌∙◌}
+use mathlib.Core.List.{List}
 use native.Mathlib.Omega.{arith}
-use Rattle.base_laws.proofs.Fill.{filling_from_none, filling_from_more, filling_from_all, filled_with}
+use lib.ListN.{drop, length-drop}
+use lib.Seq.{length-take-le}
+use Rattle.base_laws.specs.Fill.{over}
+use Rattle.base_laws.proofs.Stores.{over_part}
 use Rattle.search_rows.proofs.put_row.Goals as goal
-
-pub loop-i-init : goal.loop-i-init
-loop-i-init c = filling_from_none _ _ _ _ (omega arith)
-
-pub loop-i-preserved : goal.loop-i-preserved
-loop-i-preserved c = filling_from_more _ _ _ _ (omega arith) _ _ _ c.loop-i-test.true refl c.loop-i.invariant
 
 pub returns : goal.returns
 returns c =
-    filling_from_all _ _ _ _ (omega arith) _ _ c.loop-i-test.false c.loop-i.invariant
-    ∙ filled_with _ 0 _ 7 _ c.well_formed.1.1.0.1.0.1
+    let a = c.args.area.now in
+    let at = c.args.k * 7 in
+    let l = length-drop at a in
+    over_part a at (at + 7 - at) c.copy_from_slice.new.self (c.copy_from_slice.ensures.len ∙ length-take-le (at + 7 - at) (drop at a) (omega arith))
+    ∙ ap (λ (q : List _). over a at q) c.copy_from_slice.ensures.after

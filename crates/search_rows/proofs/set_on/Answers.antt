@@ -4,45 +4,22 @@ use Rattle.search_rows.proofs.Stacks.{sum_begin, sum_next, sum_end, sum_head, re
 use Rattle.search_rows.proofs.set_on.Goals as goal
 
 pub loop-k-init : goal.loop-k-init
-loop-k-init c = (omega arith, λ ls z s. sum_begin ls)
-
-pub offset_bounds-nexts-k : goal.offset_bounds-nexts-k
-offset_bounds-nexts-k c =
-    let d = c.requires.stood.deep in let e = c.requires.stood.count in omega arith
-
-pub bounds-nexts-k : goal.bounds-nexts-k
-bounds-nexts-k c =
-    let d = c.requires.stood.deep in let e = c.requires.stood.count in omega arith
-
-pub overflow_mul-k : goal.overflow_mul-k
-overflow_mul-k c = let r = reads_ok _ _ _ _ c.requires c.loop-k.k c.loop-k-test.true c.index-n.result c.index-n.ensures in omega arith
-
-pub overflow_add-k : goal.overflow_add-k
-overflow_add-k c = let r = reads_ok _ _ _ _ c.requires c.loop-k.k c.loop-k-test.true c.index-n.result c.index-n.ensures in omega arith
+loop-k-init c = λ ls z s. sum_begin ls
 
 pub overflow_sub-k : goal.overflow_sub-k
-overflow_sub-k c = let r = reads_ok _ _ _ _ c.requires c.loop-k.k c.loop-k-test.true c.index-n.result c.index-n.ensures in omega arith
-
-pub offset_bounds-lists-k : goal.offset_bounds-lists-k
-offset_bounds-lists-k c = let r = reads_ok _ _ _ _ c.requires c.loop-k.k c.loop-k-test.true c.index-n.result c.index-n.ensures in omega arith
+overflow_sub-k c = let r = reads_ok _ _ _ c.requires c.loop-k.k c.loop-k-test.true in omega arith
 
 pub bounds-lists-k : goal.bounds-lists-k
-bounds-lists-k c = let r =
-    reads_ok _ _ _ _ c.requires c.loop-k.k c.loop-k-test.true
-    c.index-n.result c.index-n.ensures in omega arith
+bounds-lists-k c = (reads_ok _ _ _ c.requires c.loop-k.k c.loop-k-test.true).inside
 
-pub insert-more-requires : goal.insert-more-requires
-insert-more-requires c =
-    sum_head _ _ _ _ c.requires.ms c.requires.rest c.requires.stood c.loop-k.k c.loop-k-test.true
-    c.loop-k.set (c.loop-k.invariant.1 c.requires.ms c.requires.rest c.requires.stood)
+pub insert-requires : goal.insert-requires
+insert-requires c =
+    let q = c.requires in
+    sum_head _ _ _ q.ms q.rest q.stood c.loop-k.k c.loop-k-test.true c.loop-k.set (c.loop-k.invariant q.ms q.rest q.stood)
 
 pub loop-k-preserved : goal.loop-k-preserved
-loop-k-preserved c = (
-  omega arith,
-  λ ls z s. sum_next _ _ _ _ ls z s c.loop-k.k c.loop-k-test.true
-      c.index-n.result c.index-n.ensures c.loop-k.set _ (c.loop-k.invariant.1 ls z s)
-      c.insert-more.ensures,
-)
+loop-k-preserved c =
+    λ ls z s. sum_next _ _ _ ls z s c.loop-k.k c.loop-k-test.true c.loop-k.set _ (c.loop-k.invariant ls z s) c.insert.ensures
 
 pub returns : goal.returns
-returns c = λ ls z s. sum_end ls c.loop-k.k _ c.loop-k.set (c.loop-k.invariant.1 ls z s) s.count c.loop-k-test.false
+returns c = λ ls z s. sum_end _ _ _ ls z s c.loop-k.k c.loop-k.set (c.loop-k.invariant ls z s) c.loop-k-test.false
