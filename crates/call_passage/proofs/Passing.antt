@@ -1,14 +1,13 @@
 -- What the search for a route over a baseline comes to, as the three checks give it; and an area of zeros into which a route was laid is zero again when its first
 -- entries are cleared.
-use mathlib.Core.Path.{◌≡◌, refl, ap, ◌∙◌, subst}
-use mathlib.Core.Bool.{true, false, true≢false}
+use mathlib.Core.Path.{◌≡◌, refl, sym, ◌∙◌, subst}
+use mathlib.Core.Bool.{true, false}
 use mathlib.Core.Option.{Option, none, some}
 use mathlib.Core.List.{List, ◌++◌}
 use Prim.Native.Nat.{ℕ, ◌*◌, ◌≤◌}
 use native.Mathlib.Omega.{arith}
-use lib.Dec.{ltb}
-use borrow.Author.Tests.{lt-ltb}
-use lib.ListN.{length, take, drop, replicate, length-append}
+use borrow.Author.Tests.{eq-eqb}
+use lib.ListN.{length, get_or, take, drop, replicate, length-append}
 use Rattle.base_laws.specs.Lists.{is_some}
 use Rattle.base_laws.proofs.Stores.{laid_cleared}
 use Rattle.base_model.specs.Answers.{refusal, ask, first}
@@ -21,27 +20,21 @@ use Rattle.rule_routes.specs.Routes as routes
 use Rattle.rule_routes.proofs.RouteTheorem.{route_is_road}
 use Rattle.rule_routes.proofs.WindowLaws.{window_within}
 use Rattle.route_find.specs.Ground.{open_in, Window}
-use Rattle.route_find.specs.Results.{LentAll, RouteFound, point_count, laid_into}
+use Rattle.route_find.specs.Results.{LentAll, Routed, counted, point_count, laid_into}
+use Rattle.std.specs.Prelude as std
+use Rattle.std.specs.Prelude.{None, Some}
 use Rattle.route_find.proofs.Clears.{clear_room}
 use Rattle.rule_layouts.proofs.Regular.{centre_at_below}
 use Rattle.call_passage.specs.Passages.{route_over, passage_over, PassageReady}
 
 -- ---- the three checks
 module _ (steps : List Step) (w : Rect) (start end : Position) (base : List ℕ) where
-  pub start_blocked : open_in base (centre_at w start) ≡ false → some (refusal 7) ≡ passage_over steps w start end base
-  unfolding passage_over ask first
-  start_blocked e = rw e refl
-
-  pub end_blocked : open_in base (centre_at w start) ≡ true → open_in base (centre_at w end) ≡ false → some (refusal 8) ≡ passage_over steps w start end base
-  unfolding passage_over ask first
-  end_blocked d e = rw (d, e) refl
-
-  pub no_route_lem : open_in base (centre_at w start) ≡ true → open_in base (centre_at w end) ≡ true → is_some (route_over steps w start end base) ≡ false
+  no_route_lem : open_in base (centre_at w start) ≡ true → open_in base (centre_at w end) ≡ true → is_some (route_over steps w start end base) ≡ false
       → some (refusal 9) ≡ passage_over steps w start end base
   unfolding passage_over ask first
   no_route_lem d e f = rw (d, e, f) refl
 
-  pub a_route : open_in base (centre_at w start) ≡ true → open_in base (centre_at w end) ≡ true → is_some (route_over steps w start end base) ≡ true
+  a_route : open_in base (centre_at w start) ≡ true → open_in base (centre_at w end) ≡ true → is_some (route_over steps w start end base) ≡ true
       → none ≡ passage_over steps w start end base
   unfolding passage_over ask first
   a_route d e f = rw (d, e, f) refl
@@ -55,7 +48,7 @@ module _ (steps : List Step) (w : Rect) (start end : Position) (base : List ℕ)
       (unfold centres in centre_at_below w start i) r e).short
 
   -- the route fits into the window's centres
-  pub route_fits : window_fits 8192 8192 w ≡ true → in_window w start ≡ true → point_count (route_over steps w start end base) ≤ centres w
+  route_fits : window_fits 8192 8192 w ≡ true → in_window w start ≡ true → point_count (route_over steps w start end base) ≤ centres w
   route_fits h i = fits h i (route_over steps w start end base) refl
 
 -- an area of zeros is as it was when the route that was laid into it is cleared
@@ -68,15 +61,17 @@ route_cleared c route z (some r) h = laid_cleared 0 c route z r h
 -- ---- the call of the search for a route, on areas that are ready
 module _ (steps : List Step) {w : Rect} {start end : Position} {base queue predecessors route : List ℕ} (r : PassageReady w start end base queue predecessors route)
     (m n from to : ℕ) (across : m ≡ width w) (down : n ≡ height w) (starts : from ≡ centre_at w start) (ends : to ≡ centre_at w end) where
-  pub route_ready : Window base m n × LentAll (m * n) from to queue predecessors route
+  pub grid_whole : Window base m n
+  unfolding centres
+  grid_whole = let few = (framed 8192 8192 w r.window).few in rw (across, down) (record { bytes = r.base_room; small = omega arith })
+
+  pub route_ready : LentAll (m * n) from to queue predecessors route
   unfolding centres
   route_ready =
-      let few = (framed 8192 8192 w r.window).few in
       let s = centre_at_below w start r.start_in in
       let e = centre_at_below w end r.end_in in
       rw (across, down, starts, ends) (
-        record { bytes = r.base_room; small = omega arith },
-        record { working = record { queue_clear = r.queue_clear; predecessors_clear = r.predecessors_clear; start_below = s }; end_below = e; route_room = clear_room (centres w) route r.route_clear },
+      record { working = record { queue_clear = r.queue_clear; predecessors_clear = r.predecessors_clear; start_below = s }; end_below = e; route_room = clear_room (centres w) route r.route_clear }
       )
 
   -- what the search finds is the route over the baseline
@@ -84,33 +79,44 @@ module _ (steps : List Step) {w : Rect} {start end : Position} {base queue prede
   unfolding route_over centres
   over = rw (across, down, starts, ends) refl
 
-  module _ {route' : List ℕ} {k : ℕ} (d : RouteFound (routes.route (window_edges m n steps) (m * n) (open_in base) from to) route route' k)
-      (so : open_in base (centre_at w start) ≡ true) (eo : open_in base (centre_at w end) ≡ true) where
-    found : RouteFound (route_over steps w start end base) route route' k
-    found = subst (λ (o : Option (List ℕ)). RouteFound o route route' k) over d
+  module _ {route' : List ℕ} {k : std.Option ℕ} (d : Routed (routes.route (window_edges m n steps) (m * n) (open_in base) from to) route route' k)
+      (from_open : get_or base from 0 ≡ 0) (to_open : get_or base to 0 ≡ 0) where
+    so : open_in base (centre_at w start) ≡ true
+    unfolding open_in
+    so = rw starts at (eq-eqb (get_or base from 0) 0 from_open)
 
-    missing : (o : Option (List ℕ)) → is_some o ≡ false → laid_into o route ≡ route
-    unfolding is_some laid_into
-    missing none e = refl
-    missing (some p) e = absurd (true≢false e)
+    eo : open_in base (centre_at w end) ≡ true
+    unfolding open_in
+    eo = rw ends at (eq-eqb (get_or base to 0) 0 to_open)
 
-    pub passes_not : k ≡ 0 → (some (refusal 9) ≡ passage_over steps w start end base) × (route' ≡ route)
+    found : Routed (route_over steps w start end base) route route' k
+    found = subst (λ (o : Option (List ℕ)). Routed o route route' k) over d
+
+    missing : (o : Option (List ℕ)) → counted o ≡ None → (is_some o ≡ false) × (laid_into o route ≡ route)
+    unfolding is_some laid_into counted
+    missing none e = (refl, refl)
+    missing (some p) e = absurd (cc)
+
+    pub passes_not : k ≡ None → (some (refusal 9) ≡ passage_over steps w start end base) × (route' ≡ route)
     passes_not z =
-        let none' : is_some (route_over steps w start end base) ≡ false = found.exists ∙ ap (λ (j : ℕ). ltb 0 j) z in
-        (no_route_lem steps w start end base so eo none', found.points ∙ missing (route_over steps w start end base) none')
+        let none' = missing (route_over steps w start end base) (sym found.count ∙ z) in
+        (no_route_lem steps w start end base so eo none'.0, found.points ∙ none'.1)
 
-    pub passes : (k ≡ 0 → ⊥) → none ≡ passage_over steps w start end base
-    passes z = a_route steps w start end base so eo (found.exists ∙ lt-ltb 0 k (omega arith))
+    there : (o : Option (List ℕ)) (j : ℕ) → counted o ≡ Some j → (is_some o ≡ true) × (point_count o ≡ j) × (j ≤ length (laid_into o route))
+    unfolding is_some laid_into counted point_count
+    there none j e = absurd (cc)
+    there (some p) j e =
+        let l : length p ≡ j = cc in
+        (refl, l, omega (arith, l, length-append p (drop (length p) route)))
 
-    room : (o : Option (List ℕ)) → point_count o ≤ length (laid_into o route)
-    unfolding point_count laid_into
-    room none = omega arith
-    room (some p) = omega (arith, length-append p (drop (length p) route))
+    module _ {j : ℕ} (z : k ≡ Some j) where
+      pub passes : none ≡ passage_over steps w start end base
+      passes = a_route steps w start end base so eo (there (route_over steps w start end base) j (sym found.count ∙ z)).0
 
-    pub route_room_lem : k ≤ length route'
-    route_room_lem = rw (found.count, found.points) (room (route_over steps w start end base))
+      pub route_room : j ≤ length route'
+      route_room = rw found.points (there (route_over steps w start end base) j (sym found.count ∙ z)).2
 
-    pub route_restored : replicate k 0 ++ drop k route' ≡ route
-    route_restored =
-        rw (found.count, found.points)
-        (route_cleared (centres w) route r.route_clear (route_over steps w start end base) (route_fits steps w start end base r.window r.start_in))
+      pub route_restored : replicate j 0 ++ drop j route' ≡ route
+      route_restored =
+          rw (← (there (route_over steps w start end base) j (sym found.count ∙ z)).1, found.points)
+          (route_cleared (centres w) route r.route_clear (route_over steps w start end base) (route_fits steps w start end base r.window r.start_in))
