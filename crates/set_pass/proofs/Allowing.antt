@@ -17,6 +17,7 @@ use Rattle.set_blocked.specs.Blocked.{blocked_map, mover_in, allow_in, AllowRead
 use Rattle.set_pass.specs.Pass.{Moving, passed, allowed_past}
 use Rattle.set_pass.specs.Maps.{map_after_allowed}
 use Rattle.set_pass.specs.Allowed.{Allowed}
+use Rattle.set_pass.proofs.Routed.{laid_by}
 
 allowed_none : (route : List ℕ) → Allowed (some []) (Some 0) route route
 unfolding counted laid_into
@@ -40,7 +41,7 @@ module _ (w : Rect) (steps : List Step) (start end : ℕ) (edges : List ℤ) (al
     pub allow_routed : (route route' : List ℕ) (r : std.Option ℕ) → Routed (passed w steps start end (mover_in w edges m base) s) route route' r
         → Allowed (allowed_past w steps start end (allow_in w edges allow base) s) r route route'
     unfolding allow_in allowed_past
-    allow_routed route route' r t = rw e (record { count = t.count; laid = t.points })
+    allow_routed route route' r t = rw e (laid_by t)
 
     pub map_somebody : (cells cells' : List ℕ) → cells' ≡ blocked_map (mover_in w edges m base) (centres w) s → cells' ≡ map_after_allowed w (allow_in w edges allow base) s cells
     unfolding allow_in map_after_allowed

@@ -19,8 +19,9 @@ use Rattle.rule_layouts.specs.Boards.{Mover}
 use Rattle.set_blocked.specs.Blocked.{blocked_map, without_at}
 use Rattle.set_blocked.proofs.Members.{length_blocked}
 use Rattle.set_blocked.proofs.Without.{without_at_without}
-use Rattle.set_pass.specs.Pass.{AreasKept, passed, minimal}
+use Rattle.set_pass.specs.Pass.{RouteLent, AreasKept, passed, minimal}
 use Rattle.set_pass.specs.Maps.{last_lifted, map_after_lifting}
+use Rattle.set_pass.proofs.Passing.{lent_again}
 use Rattle.base_laws.proofs.Firsts.{first_at, first_none}
 
 -- the map over n centres after k members are lifted in turn
@@ -150,3 +151,15 @@ module _ (w : Rect) (steps : List Step) (start end : ℕ) (m : Mover) (s : List 
         sym (all_true (λ (i : ℕ). is_some (passed w steps start end m (without i s))) 0 s (λ j g. at_lift j g ∙ l.each j (omega arith))),
         map_all cells cells' k (omega arith) l.each l.laid,
       )
+
+-- the areas can be lent again after lifting
+length_lifting : (w : Rect) (steps : List Step) (start end : ℕ) (m : Mover) (s cells : List ℕ) → length cells ≡ centres w → length (map_after_lifting w steps start end m s cells) ≡ centres w
+unfolding map_after_lifting
+length_lifting w steps start end m [] cells z = z
+length_lifting w steps start end m (x ∷ s) cells z = length_blocked m (centres w) (without_at (last_lifted w steps start end m (x ∷ s)) (x ∷ s))
+
+pub lent_lifted : {w : Rect} {start end : ℕ} {map queue predecessors route map' queue' predecessors' route' : List ℕ} (steps : List Step) (m : Mover) (s : List ℕ)
+    → RouteLent w start end map queue predecessors route → map' ≡ map_after_lifting w steps start end m s map
+    → AreasKept queue predecessors route queue' predecessors' route' → RouteLent w start end map' queue' predecessors' route'
+lent_lifted {w} {start} {end} {map} steps m s t e k =
+    lent_again t (ap (λ (l : List ℕ). length l) e ∙ length_lifting w steps start end m s map t.bytes ∙ sym t.bytes) k

@@ -19,8 +19,9 @@ use Rattle.rule_layouts.specs.Boards.{Mover, leaves_open}
 use Rattle.set_blocked.specs.Blocked.{bit, blocked_map}
 use Rattle.set_blocked.proofs.Members.{blocked_at_lem, length_blocked}
 use Rattle.route_find.specs.Ground.{open_in}
-use Rattle.route_find.specs.Results.{Routed, counted, point_count, laid_into}
+use Rattle.route_find.specs.Results.{counted, point_count, laid_into}
 use Rattle.set_pass.specs.Pass.{RouteLent, AreasKept, passed}
+use Rattle.set_pass.specs.Allowed.{Allowed}
 use Rattle.set_pass.proofs.Nearby.{window_route_same}
 
 open_bit : (b : Bool) → eqb (bit (not b)) 0 ≡ b
@@ -64,8 +65,9 @@ wiped_by (some p) c route route' e l s =
           ∙ laid_cleared 0 c route (all_front 0 c e) p room;
     }
 
-pub wiped : {o : Option (List ℕ)} {route route' : List ℕ} {r : std.Option ℕ} (c n : ℕ) → route ≡ replicate c 0 → Routed o route route' r → r ≡ Some n → length route' ≡ length route → Wiped route route' n
-wiped {o} {route} {route'} {r} c n e t k s = rw (counted_is o n (sym t.count ∙ k)) (wiped_by o c route route' e t.points s)
+pub wiped : {o : Option (List ℕ)} {r : std.Option ℕ} {route route' : List ℕ} → Allowed o r route route' → (c n : ℕ) → route ≡ replicate c 0 → r ≡ Some n
+    → length route' ≡ length route → Wiped route route' n
+wiped {o} {r} {route} {route'} t c n e k s = rw (counted_is o n (sym t.count ∙ k)) (wiped_by o c route route' e t.laid s)
 
 -- ---- the areas
 -- kept, and kept again

@@ -7,7 +7,8 @@ use Rattle.rule_routes.specs.Edges.{steps_of}
 use Rattle.rule_layouts.specs.Boards as boards
 use Rattle.route_find.specs.Results.{SearchRestored}
 use Rattle.set_blocked.specs.declared.Mover.{Mover}
-use Rattle.set_blocked.specs.Blocked.{blocked_map, mover_on, allow_in}
+use Rattle.set_blocked.specs.Blocked.{blocked_map, mover_in, mover_on, allow_in}
+use Rattle.set_places.specs.declared.Given.{Given}
 use Rattle.set_pass.specs.declared.Ground.{Ground}
 use Rattle.set_pass.specs.declared.Areas.{Areas}
 use Rattle.set_pass.specs.Pass.{RouteLent, Moving, AreasKept, passed, minimal, allowed_past}
@@ -31,6 +32,13 @@ mover_at g m = mover_on g.window g.places.edges.now m
 
 abbrev pub allow_on : Ground → Allow → List ℕ → Option boards.Mover
 allow_on g allow base = allow_in g.window g.places.edges.now allow base
+
+-- the movers of what is given
+abbrev pub block_on : Ground → Given → boards.Mover
+block_on g given = mover_in g.window g.places.edges.now given.query.block given.block_base.now
+
+abbrev pub allow_given : Ground → Given → Option boards.Mover
+allow_given g given = allow_on g given.query.allow given.allow_base.now
 
 -- the routes that a set leaves them
 abbrev pub past : Ground → Mover → List ℕ → Option (List ℕ)
