@@ -1,7 +1,7 @@
 -- Frames up to an evaluation or a stop: what stays true from frame to frame, and the frames left as a number read off the record.
 use Prim.Native.Nat.{ℕ, ◌+◌, ◌-◌, ◌*◌, ◌<◌}
 use mathlib.Core.Path.{◌≡◌, refl, sym, ◌∙◌, ap}
-use mathlib.Core.Bool.{true, false}
+use mathlib.Core.Bool.{Bool, true, false}
 use mathlib.Core.List.{List, [], ◌∷◌, map, map-map, reverse}
 use native.Mathlib.Omega.{arith}
 use lib.ListN.{length, get_or, length-reverse, get_or-map}
@@ -14,7 +14,6 @@ use Rattle.rule_search.specs.State.{Extensions, State, frames_left}
 use Rattle.rule_search.specs.Frames.{Plan, advance}
 use Rattle.rule_calls.specs.Areas.{record_of}
 use Rattle.search_rows.proofs.Stacks.{padded_at}
-use Rattle.search_turn.specs.declared.Moved.{Moved}
 use Rattle.search_turn.specs.Portion.{Fitting, Part, SomePart, Turned, Sought, frames_in}
 use Rattle.search_turn.proofs.Laying.{made_snoc, length_made, longs, nexts}
 
@@ -73,23 +72,24 @@ pub record Seeking (l : Limits) (n : ℕ) (r₀ : Record) (lists₀ visited : Li
 pub seeking_begin : (l : Limits) (n : ℕ) (r₀ : Record) (lists₀ visited : List ℕ) → SomePart l n r₀ lists₀ visited → Seeking l n r₀ lists₀ visited r₀ lists₀
 seeking_begin l n r₀ lists₀ visited x = record { some = x; on = λ g p l₀ v₀ s fit h. record { t = s; part = h; same = refl; kept = refl }; size = refl }
 
-module _ (l : Limits) (n : ℕ) (r₀ : Record) (lists₀ visited : List ℕ) (r : Record) (lists : List ℕ) (k : Seeking l n r₀ lists₀ visited r lists) (x : Moved) (lists' : List ℕ)
-    (f : (g : Board) (p : Plan) (l₀ v₀ : List ℕ) (s : State) → Fitting g p l n → Part g p l₀ v₀ s r lists visited → Turned g p l₀ v₀ s x lists' visited) where
-  moved : Turned k.some.g k.some.p k.some.l₀ k.some.v₀ k.some.s x lists' visited
-  moved = f k.some.g k.some.p k.some.l₀ k.some.v₀ k.some.s k.some.fitting k.some.part
+module _ (l : Limits) (n : ℕ) (r₀ : Record) (lists₀ visited : List ℕ) (r : Record) (lists : List ℕ) (k : Seeking l n r₀ lists₀ visited r lists) (q : Record) (goes : Bool)
+    (lists' : List ℕ)
+    (f : (g : Board) (p : Plan) (l₀ v₀ : List ℕ) (s : State) → Fitting g p l n → Part g p l₀ v₀ s r lists visited → Turned g p l₀ v₀ s q goes lists' visited) where
+  turned : Turned k.some.g k.some.p k.some.l₀ k.some.v₀ k.some.s q goes lists' visited
+  turned = f k.some.g k.some.p k.some.l₀ k.some.v₀ k.some.s k.some.fitting k.some.part
 
-  pub seeking_less : x.goes ≡ true → frames_in x.rec < frames_in r
+  pub seeking_less : goes ≡ true → frames_in q < frames_in r
   seeking_less e =
       omega (
         arith,
         left_is k.some.g.places.count k.some.s r k.some.part.rec,
-        left_is k.some.g.places.count moved.t x.rec moved.part.rec,
-        moved.less e,
+        left_is k.some.g.places.count turned.t q turned.part.rec,
+        turned.less e,
       )
 
-  pub seeking_on : length lists' ≡ length lists → Seeking l n r₀ lists₀ visited x.rec lists'
+  pub seeking_on : length lists' ≡ length lists → Seeking l n r₀ lists₀ visited q lists'
   seeking_on e = record {
-    some = record { g = k.some.g; p = k.some.p; fitting = k.some.fitting; l₀ = k.some.l₀; v₀ = k.some.v₀; s = moved.t; part = moved.part };
+    some = record { g = k.some.g; p = k.some.p; fitting = k.some.fitting; l₀ = k.some.l₀; v₀ = k.some.v₀; s = turned.t; part = turned.part };
     on = λ g p l₀ v₀ s fit h.
         let u = k.on g p l₀ v₀ s fit h in
         let w = f g p l₀ v₀ u.t fit u.part in
@@ -97,7 +97,7 @@ module _ (l : Limits) (n : ℕ) (r₀ : Record) (lists₀ visited : List ℕ) (r
     size = e ∙ k.size;
   }
 
-  pub seeking_end : x.goes ≡ false → (g : Board) (p : Plan) (l₀ v₀ : List ℕ) (s : State) → Fitting g p l n → Part g p l₀ v₀ s r₀ lists₀ visited → Sought g p l₀ v₀ s x.rec lists' visited
+  pub seeking_end : goes ≡ false → (g : Board) (p : Plan) (l₀ v₀ : List ℕ) (s : State) → Fitting g p l n → Part g p l₀ v₀ s r₀ lists₀ visited → Sought g p l₀ v₀ s q lists' visited
   seeking_end e g p l₀ v₀ s fit h =
       let u = k.on g p l₀ v₀ s fit h in
       let w = f g p l₀ v₀ u.t fit u.part in

@@ -2,9 +2,10 @@
 use Prim.Native.Nat.{ℕ, ◌-◌, ◌*◌, ◌≤◌}
 use mathlib.Core.Path.{◌≡◌, sym, ◌∙◌, ap, subst}
 use mathlib.Core.Bool.{Bool, true}
-use mathlib.Core.List.{List, ◌++◌, reverse, reverse-reverse}
+use mathlib.Core.List.{List, ◌++◌, map, reverse, reverse-reverse}
 use native.Mathlib.Omega.{arith}
-use lib.ListN.{length, drop, length-append, length-reverse}
+use lib.ListN.{length, take, drop, length-append, length-map, length-reverse}
+use lib.Seq.{take_at}
 use Rattle.base_laws.specs.Lists.{padded}
 use Rattle.base_laws.specs.Fill.{zeros}
 use Rattle.base_laws.proofs.Members.{reverse_member}
@@ -38,15 +39,18 @@ module _ (g : Board) (p : Plan) (l : Limits) (n : ℕ) (fit : Fitting g p l n) (
   abbrev pub below' : List ℕ
   below' = zeros (7 * p.states - length (rows_flat s.visited)) ++ drop (7 * p.states) v₀
 
-  pub part_stood : r.pending ≡ true → (count : ℕ) → count ≡ r.lists → Stood lists n count r.nexts (reverse s.lists) behind
-  unfolding stack_of record_of
-  part_stood b count e =
+  pub part_stood : r.pending ≡ true → Stood lists n (take r.lists r.nexts) (reverse s.lists) behind
+  unfolding stack_of record_of padded
+  part_stood b =
       let on : FormedLists g true s.lists = subst (λ (x : Bool). FormedLists g x s.lists) (sym numbers.pending_is ∙ b) h.good.formed.lists in
-      subst (λ (k : ℕ). Stood lists k count r.nexts (reverse s.lists) behind) fit.count_is
+      let taken : List ℕ = map (λ (e : Extensions). e.next) (reverse s.lists) in
+      subst (λ (k : ℕ). Stood lists k (take r.lists r.nexts) (reverse s.lists) behind) fit.count_is
       (record {
         laid = h.lists_are ∙ laid_front (6 * g.places.count) (stack_of g.places.count s.lists) l₀;
-        count = e ∙ numbers.lists_are ∙ sym (length-reverse s.lists);
-        nexts = ap (λ (q : Record). q.nexts) h.rec;
+        nexts =
+            ap (λ (q : Record). take r.lists q.nexts) h.rec
+            ∙ take_at taken (zeros (6 - length taken)) r.lists
+            (length-map (reverse s.lists) (λ (e : Extensions). e.next) ∙ length-reverse s.lists ∙ sym numbers.lists_are);
         deep = omega (arith, length-reverse s.lists, h.good.formed.deep);
         used = λ x m. line_used g s.lists on x (reverse_member s.lists m);
       })
@@ -76,10 +80,13 @@ module _ (g : Board) (p : Plan) (l : Limits) (n : ℕ) (fit : Fitting g p l n) (
         h.good.states,
       )
 
-pub some_stood : (l : Limits) (n : ℕ) (r : Record) (lists visited : List ℕ) (x : SomePart l n r lists visited) → r.pending ≡ true → (count : ℕ) → count ≡ r.lists → SomeStood lists n count r.nexts
-some_stood l n r lists visited x b count e = record {
+pub some_stood : (l : Limits) (n : ℕ) (r : Record) (lists visited : List ℕ) (x : SomePart l n r lists visited) → r.pending ≡ true → SomeStood lists n (take r.lists r.nexts)
+some_stood l n r lists visited x b = record {
   small = omega (arith, x.fitting.sound.few, x.fitting.count_is);
   ms = reverse x.s.lists;
   rest = behind x.g x.p l n x.fitting x.l₀ x.v₀ x.s r lists visited x.part;
-  stood = part_stood x.g x.p l n x.fitting x.l₀ x.v₀ x.s r lists visited x.part b count e;
+  stood = part_stood x.g x.p l n x.fitting x.l₀ x.v₀ x.s r lists visited x.part b;
 }
+
+pub few_lists : (l : Limits) (n : ℕ) (r : Record) (a v : List ℕ) (x : SomePart l n r a v) → r.lists ≤ 6
+few_lists l n r a v x = omega (arith, (summed x.g.places.count x.s r x.part.rec).lists_are, x.part.good.formed.deep)

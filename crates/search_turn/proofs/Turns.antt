@@ -20,7 +20,7 @@ use Rattle.rule_search.proofs.Moves.{after, held, taking, looks, limited, finish
 use Rattle.rule_search.proofs.Steps.{goes_falls, advance_goes, advance_ends, frame_stopped}
 use Rattle.rule_search.proofs.Formed.{move_good}
 use Rattle.rule_calls.specs.Areas.{number_of, laid, record_of}
-use Rattle.search_turn.specs.Portion.{stack_of, rows_flat, Sound, Fitting, Part, SomePart, Ripe, Turned, stop_rec, seen_rec, taken_rec, popped_rec}
+use Rattle.search_turn.specs.Portion.{stack_of, rows_flat, Sound, Fitting, Part, Ripe, Turned, stop_rec, seen_rec, taken_rec, popped_rec}
 use Rattle.search_turn.proofs.Laying.{
   summed,
   is_running_lem,
@@ -58,11 +58,11 @@ module _ (g : Board) (p : Plan) (lim : Limits) (n : ℕ) (fit : Fitting g p lim 
   abbrev c : ℕ
   c = g.places.count
 
-  turned_still : (s : State) (r : Record) (a v : List ℕ) → Part g p l₀ v₀ s r a v → (r.reason ≡ 1 → Ripe p s) → Turned g p l₀ v₀ s (record { rec = r; goes = false }) a v
+  turned_still : (s : State) (r : Record) (a v : List ℕ) → Part g p l₀ v₀ s r a v → (r.reason ≡ 1 → Ripe p s) → Turned g p l₀ v₀ s r false a v
   turned_still s r a v h f = record { t = s; part = h; same = refl; kept = refl; less = λ e. absurd (false≢true e); due = λ e q. f q }
 
   turned_ends : (s t : State) (r : Record) (a v : List ℕ) → frame p s.reason s ≡ ends t → (t.reason ≡ Running → ⊥) → t.layouts ≡ s.layouts → r ≡ record_of c t
-      → a ≡ laid (6 * c) (stack_of c t.lists) l₀ → v ≡ laid (7 * p.states) (rows_flat t.visited) v₀ → Good g p s → Turned g p l₀ v₀ s (record { rec = r; goes = false }) a v
+      → a ≡ laid (6 * c) (stack_of c t.lists) l₀ → v ≡ laid (7 * p.states) (rows_flat t.visited) v₀ → Good g p s → Turned g p l₀ v₀ s r false a v
   turned_ends s t r a v e stops k re ae ve h = record {
     t = t;
     part = record { rec = re; lists_are = ae; visited_are = ve; good = good_ends g p fit.sound s t e h };
@@ -73,7 +73,7 @@ module _ (g : Board) (p : Plan) (lim : Limits) (n : ℕ) (fit : Fitting g p lim 
   }
 
   turned_goes : (s t : State) (r : Record) (a v : List ℕ) → frame p s.reason s ≡ goes t → t.layouts ≡ s.layouts → r ≡ record_of c t
-      → a ≡ laid (6 * c) (stack_of c t.lists) l₀ → v ≡ laid (7 * p.states) (rows_flat t.visited) v₀ → Good g p s → Turned g p l₀ v₀ s (record { rec = r; goes = true }) a v
+      → a ≡ laid (6 * c) (stack_of c t.lists) l₀ → v ≡ laid (7 * p.states) (rows_flat t.visited) v₀ → Good g p s → Turned g p l₀ v₀ s r true a v
   turned_goes s t r a v e k re ae ve h = record {
     t = t;
     part = record { rec = re; lists_are = ae; visited_are = ve; good = good_goes g p fit.sound s t e h };
@@ -90,13 +90,13 @@ module _ (g : Board) (p : Plan) (lim : Limits) (n : ℕ) (fit : Fitting g p lim 
     running : (s : State) → Before s → r.reason ≡ 1 → s.reason ≡ Running
     running s h e = is_running_lem s.reason (sym (summed c s r h.rec).reason_is ∙ e)
 
-    pub x_stopped : (s : State) → Before s → (r.reason ≡ 1 → ⊥) → Turned g p l₀ v₀ s (record { rec = r; goes = false }) a v
+    pub x_stopped : (s : State) → Before s → (r.reason ≡ 1 → ⊥) → Turned g p l₀ v₀ s r false a v
     x_stopped s h f = turned_still s r a v h (λ e. absurd (f e))
 
-    pub x_limit : (s : State) → Before s → r.reason ≡ 1 → lim.states ≤ r.evaluations → Turned g p l₀ v₀ s (record { rec = stop_rec r 3; goes = false }) a v
+    pub x_limit : (s : State) → Before s → r.reason ≡ 1 → lim.states ≤ r.evaluations → Turned g p l₀ v₀ s (stop_rec r 3) false a v
     unfolding number_of stop state
     x_limit s h e k =
-        as_running (λ s. Before s → Turned g p l₀ v₀ s (record { rec = stop_rec r 3; goes = false }) a v)
+        as_running (λ s. Before s → Turned g p l₀ v₀ s (stop_rec r 3) false a v)
         (λ b ls w ys h.
         turned_ends (held Running b ls w ys) (held StateLimit b ls w ys) (stop_rec r 3) a v
         (move_is (limited (let z = summed c (held Running b ls w ys) r h.rec in omega (arith, fit.states_are))))
@@ -110,54 +110,50 @@ module _ (g : Board) (p : Plan) (lim : Limits) (n : ℕ) (fit : Fitting g p lim 
       pending : (s : State) → Before s → (b : Bool) → r.pending ≡ b → s.pending ≡ b
       pending s h b q = sym (summed c s r h.rec).pending_is ∙ q
 
-      pub x_over : (s : State) → Before s → r.pending ≡ false → (count : ℕ) → count ≡ r.lists → count ≡ 0 → Turned g p l₀ v₀ s (record { rec = stop_rec r 2; goes = false }) a v
+      pub x_over : (s : State) → Before s → r.pending ≡ false → r.lists ≡ 0 → Turned g p l₀ v₀ s (stop_rec r 2) false a v
       unfolding number_of stop state
-      x_over s h b count ec z =
-          as_pending (λ s. Before s → s.lists ≡ [] → Turned g p l₀ v₀ s (record { rec = stop_rec r 2; goes = false }) a v) false
+      x_over s h b z =
+          as_pending (λ s. Before s → s.lists ≡ [] → Turned g p l₀ v₀ s (stop_rec r 2) false a v) false
           (λ ls w ys h q.
-          subst (λ (ls : List Extensions). Before (held Running false ls w ys) → Turned g p l₀ v₀ (held Running false ls w ys) (record { rec = stop_rec r 2; goes = false }) a v) (sym q)
+          subst (λ (ls : List Extensions). Before (held Running false ls w ys) → Turned g p l₀ v₀ (held Running false ls w ys) (stop_rec r 2) false a v) (sym q)
           (λ h.
           turned_ends (held Running false [] w ys) (held Exhausted false [] w ys) (stop_rec r 2) a v
           (move_is (finished (in_room (held Running false [] w ys) h)))
           exhausted_stops refl (record_stop c (held Running false [] w ys) r Exhausted 2 refl h.rec) h.lists_are h.visited_are h.good) h)
           s (running s h e) (pending s h false b) h
-          (no_lists s.lists (sym (summed c s r h.rec).lists_are ∙ sym ec ∙ z))
+          (no_lists s.lists (sym (summed c s r h.rec).lists_are ∙ z))
 
-      pub x_seen : (s : State) → Before s → r.pending ≡ true → any_of (same (set_on s.lists)) s.visited ≡ true → Turned g p l₀ v₀ s (record { rec = seen_rec r; goes = true }) a v
+      pub x_seen : (s : State) → Before s → r.pending ≡ true → any_of (same (set_on s.lists)) s.visited ≡ true → Turned g p l₀ v₀ s (seen_rec r) true a v
       x_seen s h b =
-          as_pending (λ s. Before s → any_of (same (set_on s.lists)) s.visited ≡ true → Turned g p l₀ v₀ s (record { rec = seen_rec r; goes = true }) a v) true
+          as_pending (λ s. Before s → any_of (same (set_on s.lists)) s.visited ≡ true → Turned g p l₀ v₀ s (seen_rec r) true a v) true
           (λ ls w ys h m.
           turned_goes (held Running true ls w ys) (held Running false ls w ys) (seen_rec r) a v
           (move_is (repeated (in_room (held Running true ls w ys) h) (among_true (set_on ls) w m)))
           refl (record_seen c ls w ys r h.rec) h.lists_are h.visited_are h.good)
           s (running s h e) (pending s h true b) h
 
-      pub x_new : (s : State) → Before s → r.pending ≡ true → any_of (same (set_on s.lists)) s.visited ≡ false → Turned g p l₀ v₀ s (record { rec = r; goes = false }) a v
+      pub x_new : (s : State) → Before s → r.pending ≡ true → any_of (same (set_on s.lists)) s.visited ≡ false → Turned g p l₀ v₀ s r false a v
       x_new s h b m =
           turned_still s r a v h
           (λ q. record { running = running s h e; pending = pending s h true b; fresh = record { room = in_room s h; new = among_false (set_on s.lists) s.visited m } })
 
-      module _ (b : r.pending ≡ false) (count : ℕ) (ec : count ≡ r.lists) (some : count ≡ 0 → ⊥) where
+      module _ (b : r.pending ≡ false) (some : r.lists ≡ 0 → ⊥) where
         top_by : (P : State → Type 0)
             → ((l : Extensions) (ls : List Extensions) (w : List (List ℕ)) (ys : List Layout) → Before (held Running false (l ∷ ls) w ys)
             → P (held Running false (l ∷ ls) w ys))
             → (s : State) → Before s → P s
         top_by P f s h =
             as_list (λ s. Before s → P s) f s (running s h e) (pending s h false b)
-            (λ z. some (ec ∙ (summed c s r h.rec).lists_are ∙ z)) h
+            (λ z. some ((summed c s r h.rec).lists_are ∙ z)) h
 
-        top_at : count - 1 ≡ r.lists - 1
-        top_at = omega arith
-
-        pub x_take : (s : State) → Before s → get_or r.nexts (count - 1) 0 < get_or r.lengths (count - 1) 0 → (q u : Record) → q ≡ taken_rec r
-            → ((t : State) → t.reason ≡ Running → q ≡ record_of c t → u ≡ record_of c (look p t)) → Turned g p l₀ v₀ s (record { rec = u; goes = true }) a v
+        pub x_take : (s : State) → Before s → get_or r.nexts (r.lists - 1) 0 < get_or r.lengths (r.lists - 1) 0 → (q u : Record) → q ≡ taken_rec r
+            → ((t : State) → t.reason ≡ Running → q ≡ record_of c t → u ≡ record_of c (look p t)) → Turned g p l₀ v₀ s u true a v
         x_take s h lt q u qe ue =
-            top_by (λ s. Turned g p l₀ v₀ s (record { rec = u; goes = true }) a v)
+            top_by (λ s. Turned g p l₀ v₀ s u true a v)
             (λ l ls w ys h.
             let k = looks p true (taking l ∷ ls) w ys in
             let N = next_is c l ls w ys r h.rec in
             let L = long_is c l ls w ys r h.rec in
-            let lt' : get_or r.nexts (r.lists - 1) 0 < get_or r.lengths (r.lists - 1) 0 = subst (λ (j : ℕ). get_or r.nexts j 0 < get_or r.lengths j 0) top_at lt in
             turned_goes (held Running false (l ∷ ls) w ys) (held k.0 true (taking l ∷ ls) w ys) u a v
             (move_is (taken (in_room (held Running false (l ∷ ls) w ys) h) (omega arith) k.1))
             refl
@@ -165,15 +161,14 @@ module _ (g : Board) (p : Plan) (lim : Limits) (n : ℕ) (fit : Fitting g p lim 
             (h.lists_are ∙ ap (λ (q : List ℕ). laid (6 * c) q l₀) (taking_stack c l ls)) h.visited_are h.good)
             s h
 
-        pub x_pop : (s : State) → Before s → get_or r.lengths (count - 1) 0 ≤ get_or r.nexts (count - 1) 0 → (q : Record) (d : List ℕ)
-            → (q ≡ popped_rec r) × (d ≡ over a ((r.lists - 1) * n) (zeros (get_or r.lengths (r.lists - 1) 0))) → Turned g p l₀ v₀ s (record { rec = q; goes = true }) d v
+        pub x_pop : (s : State) → Before s → get_or r.lengths (r.lists - 1) 0 ≤ get_or r.nexts (r.lists - 1) 0 → (q : Record) (d : List ℕ)
+            → (q ≡ popped_rec r) × (d ≡ over a ((r.lists - 1) * n) (zeros (get_or r.lengths (r.lists - 1) 0))) → Turned g p l₀ v₀ s q true d v
         x_pop s h le q d qe =
-            top_by (λ s. Turned g p l₀ v₀ s (record { rec = q; goes = true }) d v)
+            top_by (λ s. Turned g p l₀ v₀ s q true d v)
             (λ l ls w ys h.
             let N = next_is c l ls w ys r h.rec in
             let L = long_is c l ls w ys r h.rec in
             let T = top_is c l ls w ys r h.rec in
-            let le' : get_or r.lengths (r.lists - 1) 0 ≤ get_or r.nexts (r.lists - 1) 0 = subst (λ (j : ℕ). get_or r.lengths j 0 ≤ get_or r.nexts j 0) top_at le in
             turned_goes (held Running false (l ∷ ls) w ys) (held Running false ls w ys) q d v
             (move_is (spent (in_room (held Running false (l ∷ ls) w ys) h) (omega arith)))
             refl
@@ -203,6 +198,3 @@ module _ (g : Board) (p : Plan) (lim : Limits) (n : ℕ) (fit : Fitting g p lim 
             let A : 6 * c ≤ length a = omega (arith, ap (λ (q : List ℕ). length q) h.lists_are, length_laid (6 * c) (stack_of c (l ∷ ls)) l₀ (omega arith)) in
             let K : (r.lists - 1) * c ≡ length ls * c = ap (λ (j : ℕ). j * c) T in
             (omega arith, omega arith, omega arith, few, omega arith)))
-
-pub few_lists : (l : Limits) (n : ℕ) (r : Record) (a v : List ℕ) (x : SomePart l n r a v) → r.lists ≤ 6
-few_lists l n r a v x = omega (arith, (summed x.g.places.count x.s r x.part.rec).lists_are, x.part.good.formed.deep)

@@ -1,5 +1,5 @@
 -- The search that record and areas hold while its frames run.
-use Rattle.std.specs.Prelude.{ℕ, ◌+◌, ◌-◌, ◌*◌, ◌≤◌, ◌<◌, ◌≡◌, true, false, List, ◌++◌, map, reverse, length, take, drop, get_or, set}
+use Rattle.std.specs.Prelude.{ℕ, Bool, ◌+◌, ◌-◌, ◌*◌, ◌≤◌, ◌<◌, ◌≡◌, true, false, List, map, reverse, length, take, get_or, set}
 use Rattle.base_laws.specs.Lists.{below, total, flat, padded}
 use Rattle.base_laws.specs.Fill.{zeros, over}
 use Rattle.base_model.specs.declared.Rect.{Rect}
@@ -14,7 +14,6 @@ use Rattle.rule_search.specs.State.{Running, Extensions, State, frames_left}
 use Rattle.rule_search.specs.Frames.{Plan, look, advance}
 use Rattle.rule_search.specs.Formed.{Fresh, PlanOn, Good}
 use Rattle.rule_calls.specs.Areas.{laid, row, numbers, record_of}
-use Rattle.search_turn.specs.declared.Moved.{Moved}
 
 -- the lists in order of making, n apart
 unfoldable pub stack_of : ℕ → List Extensions → List ℕ
@@ -62,14 +61,14 @@ pub record Ripe (p : Plan) (t : State) : Type 0 where
   pub pending : t.pending ≡ true
   pub fresh : Fresh p t.lists t.visited
 
--- after a frame that evaluates nothing, or no frame: the portion comes to the same end
-pub record Turned (g : Board) (p : Plan) (l₀ v₀ : List ℕ) (s : State) (x : Moved) (lists visited : List ℕ) : Type 0 where
+-- after a frame that evaluates nothing, or no frame: the portion comes to the same end. Another frame may follow where it goes on
+pub record Turned (g : Board) (p : Plan) (l₀ v₀ : List ℕ) (s : State) (r : Record) (goes : Bool) (lists visited : List ℕ) : Type 0 where
   pub t : State
-  pub part : Part g p l₀ v₀ t x.rec lists visited
+  pub part : Part g p l₀ v₀ t r lists visited
   pub same : advance p s ≡ advance p t
   pub kept : t.layouts ≡ s.layouts
-  pub less : x.goes ≡ true → frames_left t < frames_left s
-  pub due : x.goes ≡ false → x.rec.reason ≡ 1 → Ripe p t
+  pub less : goes ≡ true → frames_left t < frames_left s
+  pub due : goes ≡ false → r.reason ≡ 1 → Ripe p t
 
 -- after frames up to an evaluation or a stop
 pub record Sought (g : Board) (p : Plan) (l₀ v₀ : List ℕ) (s : State) (r : Record) (lists visited : List ℕ) : Type 0 where
@@ -181,22 +180,21 @@ listed_rec r n = record {
 abbrev pub kept_in : Record → ℕ
 kept_in r = total (take r.layouts r.routes)
 
-pub record Listable (r : Record) (w : Rect) (layouts points route : List ℕ) (k : ℕ) : Type 0 where
+pub record Listable (r : Record) (w : Rect) (layouts points route : List ℕ) : Type 0 where
   pub few : r.layouts < 32
   pub room : r.layouts * 7 + 7 ≤ length layouts
   pub fits : window_fits 8192 8192 w ≡ true
   pub kept : kept_in r ≤ 1000000
-  pub short : k ≤ 1048576
-  pub long : k ≤ length route
-  pub named : (i : ℕ) → i < k → get_or route i 0 < centres w
-  pub space : kept_in r + k ≤ 1000000 → 2 * kept_in r + 2 * k ≤ length points
+  pub short : length route ≤ 1048576
+  pub named : (i : ℕ) → i < length route → get_or route i 0 < centres w
+  pub space : kept_in r + length route ≤ 1000000 → 2 * kept_in r + 2 * length route ≤ length points
 
 -- q is what the looks after a frame make of r
 pub record LookedAt (l : Limits) (r q : Record) : Type 0 where
   pub so : (p : Plan) (n : ℕ) (s : State) → p.states ≡ l.states → p.results ≡ l.results → s.reason ≡ Running → r ≡ record_of n s → q ≡ record_of n (look p s)
 
-pub record Listing (l : Limits) (r : Record) (w : Rect) (row : List ℕ) (k : ℕ) (route : List ℕ) (q : Record) (layouts points layouts' points' route' : List ℕ) : Type 0 where
-  pub full : 1000000 < kept_in r + k → (q ≡ stop_rec r 4) × (layouts' ≡ layouts) × (points' ≡ points)
-  pub listed : kept_in r + k ≤ 1000000
-      → LookedAt l (listed_rec r k) q × (layouts' ≡ over layouts (r.layouts * 7) row) × (points' ≡ over points (2 * kept_in r) (numbers (map (position_of w) (take k route))))
-  pub wiped : route' ≡ zeros k ++ drop k route
+pub record Listing (l : Limits) (r : Record) (w : Rect) (row : List ℕ) (route : List ℕ) (q : Record) (layouts points layouts' points' route' : List ℕ) : Type 0 where
+  pub full : 1000000 < kept_in r + length route → (q ≡ stop_rec r 4) × (layouts' ≡ layouts) × (points' ≡ points)
+  pub listed : kept_in r + length route ≤ 1000000
+      → LookedAt l (listed_rec r (length route)) q × (layouts' ≡ over layouts (r.layouts * 7) row) × (points' ≡ over points (2 * kept_in r) (numbers (map (position_of w) route)))
+  pub wiped : route' ≡ zeros (length route)

@@ -3,8 +3,8 @@ use Rattle.search_turn.specs.Portion.{frames_in}
 use Rattle.search_turn.proofs.Seeking.{Seeking}
 use Rattle.search_turn.proofs.seek.Given as goal
 
-abbrev pub invariant-loop-limits : goal.invariant-loop-limits
-invariant-loop-limits l = Seeking l.limits l.places l.initial.r l.initial.lists l.visited l.r l.lists
+abbrev pub invariant-loop-next : goal.invariant-loop-next
+invariant-loop-next l = Seeking l.limits l.places l.initial.rec l.initial.lists l.visited l.rec l.lists
 
-abbrev pub decreases-loop-limits : goal.decreases-loop-limits
-decreases-loop-limits l = frames_in l.r
+abbrev pub decreases-loop-next : goal.decreases-loop-next
+decreases-loop-next l = frames_in l.rec
