@@ -2,25 +2,23 @@
 use Prim.Native.Nat.{ℕ, ◌+◌, ◌-◌, ◌≤◌, ◌<◌}
 use mathlib.Core.Path.{◌≡◌, refl, sym, ◌∙◌, ap, subst}
 use mathlib.Core.Bool.{Bool, true, false}
-use mathlib.Core.List.{List, [], ◌++◌, append-nil, append_assoc}
+use mathlib.Core.List.{List, ◌++◌, append_assoc}
 use native.Mathlib.Omega.{arith}
 use lib.Dec.{ltb, eqb}
-use lib.IntN.{ℤ, pos, negsuc}
 use lib.ListN.{length, take, drop, take-append-drop}
 use lib.Seq.{length-take-le, take-append_seam, drop-append_seam, take-append-add, take-append-le, take-take}
 use borrow.Author.Tests.{ltb-true, eqb-true}
 use borrow.Rule.Slice.PartMut.{put_mid, post_of}
-use Rattle.std.specs.Prelude.{Option, None, Some}
+use Rattle.std.specs.Prelude.{Option, None, Some, Result, Ok, Err}
+use Rattle.std.specs.Result.{result_ok}
+use Rattle.std.specs.Io.{ReadsAtMost}
+use Rattle.std.specs.Io.KnownBytes.{ReadConsumes}
 use Rattle.std.proofs.Common.{length-drop}
 use Rattle.std.specs.Io.KnownBytes.{Consumes, IsAtEnd}
 use Rattle.input_arrival.specs.Arrivals.{takes}
 use Rattle.input_arrival.specs.declared.Arrival.{Arrival}
 use Rattle.input_arrival.specs.declared.Arrival.TheVariants.{Going, Whole, Cut}
-use Rattle.input_read.specs.Reads.{ReadOn, AllCame}
-
-pub consumes_none : (b : Option (List ℕ)) → Consumes b b []
-consumes_none None = tt
-consumes_none (Some xs) = refl
+use Rattle.input_read.specs.Reads.{ReadOn}
 
 -- one part, and then another
 pub consumes_on : (a b c : Option (List ℕ)) (xs ys : List ℕ) → Consumes a b xs → Consumes b c ys → Consumes a c (xs ++ ys)
@@ -53,7 +51,7 @@ module _ (at : ℕ) (before after : Option (List ℕ)) (xs ys : List ℕ) (insid
   whole_part = length-take-le (length xs - at) (drop at xs) (omega (arith, length-drop at xs))
 
   -- a read that put n bytes
-  pub came : (z : ℤ) (n : ℕ) (r : Arrival) → z ≡ pos n → r ≡ takes (length xs) (Going at) z → length ys ≡ length (take (length xs - at) (drop at xs)) → n ≤ length ys
+  came : (z : Option ℕ) (n : ℕ) (r : Arrival) → z ≡ Some n → r ≡ takes (length xs) (Going at) z → length ys ≡ length (take (length xs - at) (drop at xs)) → n ≤ length ys
       → Consumes before after (take n ys) → (n ≡ 0 → 0 < length ys → IsAtEnd after) → ReadOn at before after xs put r
   unfolding takes
   came z n r p e l h k end = subst (ReadOn at before after xs put) (sym (e ∙ ap (takes (length xs) (Going at)) p))
@@ -69,9 +67,15 @@ module _ (at : ℕ) (before after : Option (List ℕ)) (xs ys : List ℕ) (insid
           (refl, stays, subst (λ (m : ℕ). Consumes before after (take m ys)) none_came k, end none_came (omega (arith, l, whole_part)))
 
   -- a read that failed
-  pub failed : (z : ℤ) (r : Arrival) (area' : List ℕ) → z ≡ negsuc 0 → r ≡ takes (length xs) (Going at) z → ReadOn at before after xs area' r
+  failed : (z : Option ℕ) (r : Arrival) (area' : List ℕ) → z ≡ None → r ≡ takes (length xs) (Going at) z → ReadOn at before after xs area' r
   unfolding takes
   failed z r area' p e = subst (ReadOn at before after xs area') (sym (e ∙ ap (takes (length xs) (Going at)) p)) tt
+
+  -- a read, by what it answered
+  pub answered : {E : Type 0} (got : Result ℕ E) (z : Option ℕ) (r : Arrival) → z ≡ result_ok got → r ≡ takes (length xs) (Going at) z
+      → length ys ≡ length (take (length xs - at) (drop at xs)) → ReadsAtMost got ys → ReadConsumes before after got ys → ReadOn at before after xs put r
+  answered (Ok n) z r p e l h k = came z n r p e l h.0 k.0 k.1
+  answered (Err x) z r p e l h k = failed z r put p e
 
 -- what came before and what came now
 pub more_came : (first before after : Option (List ℕ)) (at n : ℕ) (area area' : List ℕ) (r : Arrival) → r ≡ Going n → at ≤ n
@@ -81,23 +85,3 @@ more_came first before after at n area area' r e l h k =
     subst (Consumes first after)
     (ap (λ (x : List ℕ). x ++ drop at (take n area')) (sym d.0 ∙ sym (take-take at n area' l)) ∙ take-append-drop at (take n area'))
     (consumes_on first before after (take at area) (drop at (take n area')) h d.1)
-
-ended : (first before after : Option (List ℕ)) (at : ℕ) (area area' : List ℕ) → take at area' ≡ take at area → Consumes first before (take at area)
-    → Consumes before after [] → IsAtEnd after → AllCame first area' (Whole at)
-ended None before after at area area' s h k end = tt
-ended (Some xs) None after at area area' s h k end = absurd h
-ended (Some xs) (Some ys) None at area area' s h k end = absurd k
-ended (Some xs) (Some ys) (Some zs) at area area' s h k end =
-    h ∙ ap (λ (l : List ℕ). take at area ++ l) (k ∙ end) ∙ append-nil (take at area) ∙ sym s
-
-nothing : (first : Option (List ℕ)) (area : List ℕ) → AllCame first area Cut
-nothing None area = tt
-nothing (Some xs) area = tt
-
--- the last read
-pub all_came : (first before after : Option (List ℕ)) (at : ℕ) (area area' : List ℕ) (r : Arrival) → ((n : ℕ) → r ≡ Going n → ⊥)
-    → Consumes first before (take at area) → ReadOn at before after area area' r → AllCame first area' r
-all_came first before after at area area' (Going n) o h k = absurd (o n refl)
-all_came first before after at area area' (Whole n) o h k =
-    subst (λ (m : ℕ). AllCame first area' (Whole m)) (sym k.0) (ended first before after at area area' k.1 h k.2 k.3)
-all_came first before after at area area' Cut o h k = nothing first area'

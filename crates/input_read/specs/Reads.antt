@@ -1,6 +1,6 @@
 -- What can be said of reads (RULES 9.6). Whether a read fails is the system's to say, and which bytes come is the reader's: where those are known, a whole input is all of them.
 -- What decides is `input_arrival::taken`, whose answers the loop hands on.
-use Rattle.std.specs.Prelude.{ℕ, ◌<◌, ◌≡◌, List, [], ℤ, length, take, drop, Option, None, Some}
+use Rattle.std.specs.Prelude.{ℕ, ◌<◌, ◌≡◌, List, [], length, take, drop, Option, None, Some}
 use Rattle.std.specs.Io.KnownBytes.{Consumes, IsAtEnd}
 use Rattle.input_arrival.specs.Arrivals.{takes}
 use Rattle.input_arrival.specs.declared.Arrival.{Arrival}
@@ -8,7 +8,7 @@ use Rattle.input_arrival.specs.declared.Arrival.TheVariants.{Going, Whole, Cut}
 
 -- one read, into what `at` bytes leave of an area of `room`: some answer was folded in
 pub record ReadOnce (room at : ℕ) (r : Arrival) : Type 0 where
-  pub answer : ℤ
+  pub answer : Option ℕ
   pub is : r ≡ takes room (Going at) answer
 
 -- one read, of the bytes that a reader has left before and after, where they are known: the first `at` bytes stay, those that came follow, and at the input's end

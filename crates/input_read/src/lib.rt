@@ -14,10 +14,7 @@ fn read_more<R: Read>(reader: &mut R, area: &mut [u8], at: usize) -> Arrival
     ensures bytes { ReadOn at (R.remaining reader.old) (R.remaining reader.new) area.old area.new result }
 {
     let room = area.len();
-    let got = match reader.read(&mut area[at..]) {
-        Ok(n) => n as isize,
-        Err(_) => -1,
-    };
+    let got = reader.read(&mut area[at..]).ok();
     input_arrival::taken(at, room, got)
 }
 

@@ -16,8 +16,8 @@ fn digit_count(n: u32) -> usize
     let mut v = n;
     let mut k = 1;
     while 9 < v {
-        v = v / 10;
-        k = k + 1;
+        v /= 10;
+        k += 1;
     }
     k
 }
