@@ -108,12 +108,9 @@ pub fn expand(
     let x = u % grid.width;
     let y = u / grid.width;
     let mut t = tail;
-    let mut k = 0;
-    while k + 1 < steps.len() {
-        let dx = steps[k];
-        let dy = steps[k + 1];
+    let (pairs, _) = steps.as_chunks::<2>();
+    for &[dx, dy] in pairs {
         t = enter(grid, u, x, y, dx, dy, queue, predecessors, t);
-        k += 2;
     }
     t
 }

@@ -1,2 +1,3 @@
 -- The laws of the walk over a table of steps.
+pub mod Pairs
 mod Counting
