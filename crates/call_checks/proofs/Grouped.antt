@@ -8,9 +8,10 @@ use native.Mathlib.Numerals.{add-one}
 use lib.Dec.{leb}
 use lib.ListN.{length, get_or, drop, drop_of_length-le}
 use lib.Seq.{drop-cons}
-use borrow.Author.Tests.{le-leb, lt-leb}
+use borrow.Author.Tests.{le-leb, lt-leb, leb-true}
 use borrow.Author.Count.{below_more}
 use Rattle.base_laws.specs.Lists.{all_of, total}
+use Rattle.base_laws.proofs.Members.{both}
 use Rattle.base_laws.proofs.Tests.{all_true, all_false}
 use Rattle.call_checks.specs.Parts.{groups_fit}
 
@@ -26,34 +27,32 @@ pub record Summed (gs : List ℕ) (sum i : ℕ) : Type 0 where
   pub left : sum + total (drop i gs) ≡ total gs
   pub small : sum ≤ 6 * i
 
+pub slots_small : (k : ℕ) → slots_fit k ≡ true → k ≤ 6
+slots_small k e = leb-true k 6 (both (leb 1 k) (leb k 6) e).1
+
 module _ (gs : List ℕ) where
   pub groups_many : 6 < length gs → groups_fit gs ≡ false
   unfolding groups_fit
   groups_many h = rw (lt-leb (length gs) 6 h)
 
-  misfit : (i : ℕ) → i < length gs → slots_fit (get_or gs i 0) ≡ false → groups_fit gs ≡ false
+  pub misfit : (i : ℕ) → i < length gs → slots_fit (get_or gs i 0) ≡ false → groups_fit gs ≡ false
   unfolding groups_fit
   misfit i h e =
       ap (λ (b : Bool). leb (length gs) 6 && b && leb (total gs) 6) (all_false slots_fit 0 gs i h e)
       ∙ ap (λ (b : Bool). b && leb (total gs) 6) (and-false (leb (length gs) 6))
 
-  pub slots_none : (i : ℕ) → i < length gs → get_or gs i 0 < 1 → groups_fit gs ≡ false
-  slots_none i h l = misfit i h (rw (lt-leb 1 (get_or gs i 0) l))
-
-  pub slots_many : (i : ℕ) → i < length gs → 6 < get_or gs i 0 → groups_fit gs ≡ false
-  slots_many i h l = misfit i h (rw (lt-leb (get_or gs i 0) 6 l) (and-false (leb 1 (get_or gs i 0))))
-
   pub none_summed : length gs ≤ 6 → Summed gs 0 0
   none_summed h = record { few = h; upto = omega arith; fits = λ k l. absurd (omega arith); left = omega arith; small = omega arith }
 
-  pub one_summed : (sum i : ℕ) → Summed gs sum i → i < length gs → 1 ≤ get_or gs i 0 → get_or gs i 0 ≤ 6 → Summed gs (sum + get_or gs i 0) (i + 1)
+  pub one_summed : (sum i : ℕ) → Summed gs sum i → i < length gs → slots_fit (get_or gs i 0) ≡ true → Summed gs (sum + get_or gs i 0) (i + 1)
   unfolding total
-  one_summed sum i s h lo hi =
+  one_summed sum i s h fit =
+      let hi = slots_small (get_or gs i 0) fit in
       let e : total (drop i gs) ≡ get_or gs i 0 + total (drop (i + 1) gs) = rw (add-one i, drop-cons gs i 0 h) refl in
       record {
         few = s.few;
         upto = omega arith;
-        fits = below_more _ _ s.fits (rw (le-leb 1 (get_or gs i 0) lo, le-leb (get_or gs i 0) 6 hi));
+        fits = below_more _ _ s.fits fit;
         left = omega (arith, e, s.left);
         small = omega (arith, s.small);
       }

@@ -3,17 +3,15 @@ use Prim.Native.Nat.{ℕ, ◌≤◌}
 use mathlib.Core.Path.{◌≡◌, sym, ap, ◌∙◌}
 use mathlib.Core.Bool.{Bool, true, ◌&&◌}
 use mathlib.Core.Option.{Option, none, some}
-use mathlib.Core.List.{List, [], ◌∷◌, ◌++◌}
-use lib.Dec.{leb}
+use mathlib.Core.List.{List, ◌++◌}
 use lib.ListN.{length}
-use borrow.Author.Tests.{leb-true}
-use Rattle.base_laws.specs.Lists.{all_of, total}
+use native.Mathlib.Omega.{arith}
+use Rattle.std.proofs.lemmas.Grind.{common_steps}
+use Rattle.base_laws.specs.Lists.{total}
 use Rattle.base_laws.proofs.Members.{both}
 use Rattle.rule_calls.proofs.StepLaws.{first_both}
 use Rattle.base_model.specs.Answers.{Said, ask, first, reply_of, said_of}
-use Rattle.base_model.proofs.Asking.{ask_passes, first_passes}
-use Rattle.base_model.specs.declared.Answer.{Answer}
-use Rattle.base_model.specs.declared.Answer.TheVariants.{Done, Refused}
+use Rattle.std.specs.Prelude.{Result, Ok, Err}
 use Rattle.base_model.specs.declared.Refusal.{Refusal}
 use Rattle.base_model.specs.declared.Limits.{Limits}
 use Rattle.base_model.specs.declared.Query.{Query}
@@ -27,11 +25,11 @@ use Rattle.call_checks.specs.Parts.{allow_small, allow_long, frames_of, frame_ch
 use Rattle.call_checks.proofs.Asked.{first_then, first_stops, query_parts}
 
 -- ---- an answer of the code as one of the definitions'
-pub done_passes : {o : Option Said} {a : Answer} → reply_of a ≡ o → a ≡ Done → o ≡ none
+pub done_passes : {A : Type 0} {o : Option Said} {a : Result A Refusal} {x : A} → reply_of a ≡ o → a ≡ Ok x → o ≡ none
 unfolding reply_of
 done_passes e d = sym e ∙ ap reply_of d
 
-pub refused_says : {o : Option Said} {a : Answer} {r : Refusal} → reply_of a ≡ o → a ≡ Refused r → o ≡ some (said_of r)
+pub refused_says : {A : Type 0} {o : Option Said} {a : Result A Refusal} {r : Refusal} → reply_of a ≡ o → a ≡ Err r → o ≡ some (said_of r)
 unfolding reply_of
 refused_says e d = sym e ∙ ap reply_of d
 
@@ -41,12 +39,8 @@ pub record Grouping (gs : List ℕ) : Type 0 where
   pub slots : total gs ≤ 6
 
 pub groups_found : (i : Inputs) → first (group_checks i) ≡ none → Grouping i.groups
-unfolding group_checks
-groups_found i e =
-    let gs = i.groups in
-    let t = all_of (λ (k : ℕ). leb 1 k && leb k 6) gs in
-    let a = both (leb (length gs) 6 && t) (leb (total gs) 6) (ask_passes 10 (leb (length gs) 6 && t && leb (total gs) 6) (first_passes _ [] e).0) in
-    record { few = leb-true (length gs) 6 (both (leb (length gs) 6) t a.0).0; slots = leb-true (total gs) 6 a.1 }
+unfolding group_checks ask first
+groups_found i e = record { few = grind (arith, common_steps, e); slots = grind (arith, common_steps, e) }
 
 pub record Limiting (l : Limits) : Type 0 where
   pub some_states : 1 ≤ l.states
@@ -55,18 +49,13 @@ pub record Limiting (l : Limits) : Type 0 where
   pub results : l.results ≤ 32
 
 pub limits_found : (l : Limits) → first (limit_checks l) ≡ none → Limiting l
-unfolding limit_checks
-limits_found l e =
-    let x = first_passes (ask 11 (leb 1 l.states && leb l.states 100000)) (ask 12 (leb 1 l.results && leb l.results 32) ∷ []) e in
-    let s = both (leb 1 l.states) (leb l.states 100000) (ask_passes 11 (leb 1 l.states && leb l.states 100000) x.0) in
-    let y = first_passes (ask 12 (leb 1 l.results && leb l.results 32)) [] x.1 in
-    let r = both (leb 1 l.results) (leb l.results 32) (ask_passes 12 (leb 1 l.results && leb l.results 32) y.0) in
-    record {
-      some_states = leb-true 1 l.states s.0;
-      states = leb-true l.states 100000 s.1;
-      some_results = leb-true 1 l.results r.0;
-      results = leb-true l.results 32 r.1;
-    }
+unfolding limit_checks ask first
+limits_found l e = record {
+  some_states = grind (arith, common_steps, e);
+  states = grind (arith, common_steps, e);
+  some_results = grind (arith, common_steps, e);
+  results = grind (arith, common_steps, e);
+}
 
 pub record Framing (q : Query) : Type 0 where
   pub window : window_fits 8192 8192 q.window ≡ true
@@ -76,23 +65,14 @@ pub record Framing (q : Query) : Type 0 where
   pub allowed_small : allow_small q.allow ≡ true
 
 pub frames_found : (i : Inputs) → first (frame_checks i) ≡ none → Framing i.query
-unfolding frame_checks frames_of
-frames_found i e =
-    let q = i.query in
-    let ends = in_window q.window q.start && in_window q.window q.end in
-    let movers = small q.block && allow_small q.allow in
-    let x = first_passes (ask 2 (window_fits 8192 8192 q.window)) (ask 3 ends ∷ ask 4 movers ∷ []) e in
-    let y = first_passes (ask 3 ends) (ask 4 movers ∷ []) x.1 in
-    let z = first_passes (ask 4 movers) [] y.1 in
-    let s = both (in_window q.window q.start) (in_window q.window q.end) (ask_passes 3 ends y.0) in
-    let m = both (small q.block) (allow_small q.allow) (ask_passes 4 movers z.0) in
-    record {
-      window = ask_passes 2 (window_fits 8192 8192 q.window) x.0;
-      start_in = s.0;
-      end_in = s.1;
-      block_small = m.0;
-      allowed_small = m.1;
-    }
+unfolding frame_checks frames_of ask first
+frames_found i e = record {
+  window = grind (arith, common_steps, e);
+  start_in = grind (arith, common_steps, e);
+  end_in = grind (arith, common_steps, e);
+  block_small = grind (arith, common_steps, e);
+  allowed_small = grind (arith, common_steps, e);
+}
 
 pub record Spacious (i : Inputs) (long : Bool) : Type 0 where
   pub block : centres i.query.window ≤ length i.block_base
@@ -100,14 +80,8 @@ pub record Spacious (i : Inputs) (long : Bool) : Type 0 where
   pub others : long ≡ true
 
 pub areas_found : (i : Inputs) (long : Bool) → first (area_checks i long) ≡ none → Spacious i long
-unfolding area_checks areas_of
-areas_found i long e =
-    let n = centres i.query.window in
-    let b = leb n (length i.block_base) in
-    let a = allow_long n i.query.allow (length i.allow_base) in
-    let q = both (b && a) long (ask_passes 6 (b && a && long) (first_passes (ask 6 (b && a && long)) [] e).0) in
-    let r = both b a q.0 in
-    record { block = leb-true n (length i.block_base) r.0; allow = r.1; others = q.1 }
+unfolding area_checks areas_of ask first
+areas_found i long e = record { block = grind (arith, common_steps, e); allow = grind (arith, common_steps, e); others = grind (arith, common_steps, e) }
 
 -- ---- begin's checks
 module _ (i : Inputs) (l : Limits) (w : Work) (s : Store) where

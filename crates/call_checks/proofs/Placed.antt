@@ -10,6 +10,9 @@ use lib.IntN.{ℤ}
 use lib.ListN.{length, get_or, length-append, get_or-append}
 use lib.Seq.{get_or_at}
 use borrow.Author.Tests.{le-leb, lt-leb, leb-true, ltb-true, ltb-false, eqb-true, ne_eqb}
+use Rattle.std.specs.Prelude as std
+use Rattle.std.specs.Prelude.{None, Some}
+use Rattle.std.specs.Option.{MatchOption, unwrap_or}
 use Rattle.base_laws.specs.Lists.{below}
 use Rattle.base_laws.proofs.Members.{either, both}
 use Rattle.base_laws.proofs.Tables.{table_at, length_table}
@@ -64,6 +67,14 @@ module _ (w : Rect) (gs : List ℕ) where
       let b = both (leb p.spec 5 && ltb p.group (length gs) && nonempty p.footprint) (nonempty p.collision) a.0 in
       let c = both (leb p.spec 5 && ltb p.group (length gs)) (nonempty p.footprint) b.0 in
       ltb-true p.group (length gs) (both (leb p.spec 5) (ltb p.group (length gs)) c.0).1
+
+-- the first index at which a placement does not pass, or n
+pub misplaced_at : (w : Rect) (gs ns : List ℕ) (es : List ℤ) (n : ℕ) (r : std.Option ℕ)
+    → MatchOption r ((k : ℕ) → 0 ≤ k → k < n → placement_fits w gs (placement_at ns es k) ≡ true)
+    (λ i. (0 ≤ i) × (i < n) × (placement_fits w gs (placement_at ns es i) ≡ false) × ((k : ℕ) → 0 ≤ k → k < i → placement_fits w gs (placement_at ns es k) ≡ true))
+    → Misplaced w gs ns es n (unwrap_or r n)
+misplaced_at w gs ns es n None m = record { within = omega arith; before = λ k h. m k (omega arith) h; fails = λ h. absurd (omega arith) }
+misplaced_at w gs ns es n (Some i) m = record { within = omega arith; before = λ k h. m.3 k (omega arith) h; fails = λ h. m.2 }
 
 -- ---- the placements lent
 module _ (ns : List ℕ) (es : List ℤ) where

@@ -1,5 +1,5 @@
 -- The lists of checks that the calls share, in parts, each over what it looks at.
-use Rattle.std.specs.Prelude.{ℕ, ◌+◌, ◌*◌, ◌<◌, ◌≤◌, ◌≡◌, Bool, true, false, ◌&&◌, List, [], ◌∷◌, leb, ℤ, length, get_or}
+use Rattle.std.specs.Prelude.{Result, Ok, Err, ℕ, ◌+◌, ◌*◌, ◌<◌, ◌≤◌, ◌≡◌, Bool, true, false, ◌&&◌, List, [], ◌∷◌, leb, ℤ, length, get_or}
 use Rattle.std.proofs.Math.Option.{Option}
 use Rattle.base_laws.specs.Lists.{all_of, total}
 use Rattle.base_model.specs.Answers.{Said, ask}
@@ -8,11 +8,16 @@ use Rattle.base_model.specs.declared.Placement.{Placement}
 use Rattle.base_model.specs.Allow.{Allow}
 use Rattle.std.specs.Prelude.{None, Some}
 use Rattle.base_model.specs.declared.Query.{Query}
+use Rattle.base_model.specs.declared.Refusal.{Refusal}
 use Rattle.ground_rects.specs.Rects.{small}
 use Rattle.ground_rects.specs.Windows.{centres, window_fits, in_window}
 use Rattle.rule_layouts.specs.Flat.{placement_at}
 use Rattle.rule_layouts.specs.Inputs.{Inputs}
 use Rattle.rule_calls.specs.Checks.{placement_fits, first_misplaced}
+
+-- the refusal unless the condition holds
+abbrev pub asked : Bool → Refusal → Result Unit Refusal
+asked holds r = elim holds [ true ↦ Ok tt | false ↦ Err r ]
 
 -- passes 10
 unfoldable pub groups_fit : List ℕ → Bool

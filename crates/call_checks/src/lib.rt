@@ -1,7 +1,8 @@
 // The checks that the calls share.
 #![tactic(auto)]
 
-ghost use Rattle.std.specs.Prelude.{◌≡◌, true, ◌&&◌, List, ℕ, ◌+◌, ◌*◌, ◌/◌, ◌≤◌, min, leb, ℤ, length};
+ghost use Rattle.std.specs.Prelude.{◌≡◌, true, ◌&&◌, ◌+◌, ◌*◌, ◌/◌, ◌≤◌, min, leb, length};
+ghost use Rattle.std.specs.Option.{unwrap_or};
 ghost use Rattle.base_model.specs.Answers.{first, reply_of};
 ghost use Rattle.ground_rects.specs.Rects.{small};
 ghost use Rattle.ground_rects.specs.Windows.{window_fits, in_window};
@@ -9,18 +10,36 @@ ghost use Rattle.rule_layouts.specs.Flat.{placement_at, placements_of};
 ghost use Rattle.rule_layouts.specs.Inputs.{Inputs};
 ghost use Rattle.rule_calls.specs.Areas.{Work, Store, work_fits, store_fits};
 ghost use Rattle.rule_calls.specs.Calls.{begin_checks};
+ghost use Rattle.set_places.specs.Given.{inputs_in};
 ghost use Rattle.call_lengths.specs.Lengths.{WorkHas, StoreHas};
 ghost use Rattle.rule_calls.specs.Checks.{group_checks, limit_checks, placement_fits, place_checks};
-ghost use Rattle.call_checks.specs.Parts.{groups_fit, allow_small, allow_long, frame_checks, area_checks, Misplaced};
+ghost use Rattle.call_checks.specs.Parts.{asked, groups_fit, allow_small, allow_long, frame_checks, area_checks, Misplaced};
 
-use base_model::{Answer, Bounds, EDGES, LAST_SPEC, LAYOUTS, Limits, NUMBERS, PIXELS, PLACES, Query, Rect, Refusal, SLOTS, STATES};
+use base_model::{
+    Bounds, EDGES, LAST_SPEC, LAYOUTS, Limits, NUMBERS, PIXELS, PLACES, Query, Rect, Refusal,
+    SLOTS, STATES,
+};
 use call_lengths::{StoreLengths, WorkLengths};
-use set_places::{collision_at, footprint_at, group_at};
+use set_places::{FlatPlaces, Given};
 
 // The bounds of slots and of listed layouts, as the numbers of 32 bits that they are compared with.
 const MOST_SLOTS: u32 = SLOTS as u32;
 
 const RESULTS: u32 = LAYOUTS as u32;
+
+// Refuses unless the condition holds.
+pub fn ask(holds: bool, refusal: Refusal) -> Result<(), Refusal>
+    ensures { result ≡ asked holds refusal }
+{
+    if holds { Ok(()) } else { Err(refusal) }
+}
+
+// Whether n is from 1 up to the most.
+fn from_one(n: u32, most: u32) -> bool
+    ensures { result ≡ (leb 1 n && leb n most) }
+{
+    1 <= n && n <= most
+}
 
 // Whether up to 6 groups have slot counts 1 to 6, at most 6 together.
 fn groups_fit(groups: &[u32]) -> bool
@@ -30,65 +49,43 @@ fn groups_fit(groups: &[u32]) -> bool
         return false;
     }
     let mut sum = 0;
-    let mut i = 0;
-    while i < groups.len() {
-        let slots = groups[i];
-        if slots < 1 {
-            return false;
-        }
-        if slots > MOST_SLOTS {
+    for &slots in groups {
+        if !from_one(slots, MOST_SLOTS) {
             return false;
         }
         sum += slots;
-        i += 1;
     }
     sum <= MOST_SLOTS
 }
 
 // 10.
-pub fn check_groups(groups: &[u32]) -> Answer
+pub fn check_groups(groups: &[u32]) -> Result<(), Refusal>
     ensures { (i : Inputs) → i.groups ≡ groups.now → reply_of result ≡ first (group_checks i) }
 {
-    if !groups_fit(groups) {
-        return Answer::Refused(Refusal::GroupsInvalid);
-    }
-    Answer::Done
-}
-
-// Whether n is from 1 up to the most.
-fn from_one(n: u32, most: u32) -> bool
-    ensures { result ≡ (leb 1 n && leb n most) }
-{
-    if n < 1 {
-        return false;
-    }
-    n <= most
+    ask(groups_fit(groups), Refusal::GroupsInvalid)
 }
 
 // 11 and 12.
-pub fn check_limits(limits: Limits) -> Answer
+pub fn check_limits(limits: Limits) -> Result<(), Refusal>
     ensures { reply_of result ≡ first (limit_checks limits) }
 {
-    if !from_one(limits.states, STATES) {
-        return Answer::Refused(Refusal::StateLimitInvalid);
-    }
-    if !from_one(limits.results, RESULTS) {
-        return Answer::Refused(Refusal::ResultLimitInvalid);
-    }
-    Answer::Done
+    ask(from_one(limits.states, STATES), Refusal::StateLimitInvalid)?;
+    ask(
+        from_one(limits.results, RESULTS),
+        Refusal::ResultLimitInvalid,
+    )
 }
 
 // Whether start and end lie in the window.
 fn ends_inside(query: Query) -> bool
     ensures { result ≡ (in_window query.window query.start && in_window query.window query.end) }
 {
-    if !ground_rects::in_window(query.window, query.start) {
-        return false;
-    }
-    ground_rects::in_window(query.window, query.end)
+    ground_rects::in_window(query.window, query.start)
+        && ground_rects::in_window(query.window, query.end)
 }
 
 // Whether the allowed mover, if there is one, is small enough.
+#[tactic(auto, unfolding(crate::specs::Parts::allow_small))]
 fn allow_small(allow: Option<Bounds>) -> bool
     ensures { result ≡ allow_small allow }
 {
@@ -102,30 +99,23 @@ fn allow_small(allow: Option<Bounds>) -> bool
 fn movers_small(query: Query) -> bool
     ensures { result ≡ (small query.block && allow_small query.allow) }
 {
-    if !ground_rects::small(query.block) {
-        return false;
-    }
-    let allow = query.allow;
-    allow_small(allow)
+    ground_rects::small(query.block) && allow_small(query.allow)
 }
 
 // 2, 3 and 4.
-pub fn check_query(query: Query) -> Answer
+pub fn check_query(query: Query) -> Result<(), Refusal>
     ensures { (i : Inputs) → i.query ≡ query → reply_of result ≡ first (frame_checks i) }
 {
-    if !ground_rects::window_fits(query.window, PIXELS, PIXELS) {
-        return Answer::Refused(Refusal::WindowInvalid);
-    }
-    if !ends_inside(query) {
-        return Answer::Refused(Refusal::EndOutside);
-    }
-    if !movers_small(query) {
-        return Answer::Refused(Refusal::BoundTooLarge);
-    }
-    Answer::Done
+    ask(
+        ground_rects::window_fits(query.window, PIXELS, PIXELS),
+        Refusal::WindowInvalid,
+    )?;
+    ask(ends_inside(query), Refusal::EndOutside)?;
+    ask(movers_small(query), Refusal::BoundTooLarge)
 }
 
 // Whether the allowed mover's baseline, if there is one, has n bytes.
+#[tactic(auto, unfolding(crate::specs::Parts::allow_long))]
 fn allow_long(n: usize, allow: Option<Bounds>, base: usize) -> bool
     ensures { result ≡ allow_long n allow base }
 {
@@ -136,102 +126,74 @@ fn allow_long(n: usize, allow: Option<Bounds>, base: usize) -> bool
 }
 
 // 6. The call takes other areas too: `long` says whether they are long enough.
-pub fn check_areas(query: Query, block_base: &[u8], allow_base: &[u8], long: bool) -> Answer
-    requires { window_fits 8192 8192 query.window ≡ true }
-    ensures { (i : Inputs) → i.query ≡ query → i.block_base ≡ block_base.now → i.allow_base ≡ allow_base.now
+pub fn check_areas(given: &Given<'_>, long: bool) -> Result<(), Refusal>
+    requires { window_fits 8192 8192 given.now.query.window ≡ true }
+    ensures { (i : Inputs) → i.query ≡ given.now.query → i.block_base ≡ given.now.block_base.now → i.allow_base ≡ given.now.allow_base.now
         → reply_of result ≡ first (area_checks i long) }
 {
-    let n = ground_rects::width(query.window) * ground_rects::height(query.window);
-    let allow = query.allow;
-    if block_base.len() < n {
-        return Answer::Refused(Refusal::AreaTooShort);
-    }
-    if !allow_long(n, allow, allow_base.len()) {
-        return Answer::Refused(Refusal::AreaTooShort);
-    }
-    if !long {
-        return Answer::Refused(Refusal::AreaTooShort);
-    }
-    Answer::Done
+    let n = call_lengths::centres(given.query.window);
+    let bases = n <= given.block_base.len()
+        && allow_long(n, given.query.allow, given.allow_base.len());
+    ask(bases && long, Refusal::AreaTooShort)
 }
 
 // How many placements stand whole in both rows.
-fn whole_places(numbers: usize, edges: usize) -> usize
-    ensures { result ≡ min (numbers / 4) (edges / 8) }
+fn whole_places(places: &FlatPlaces<'_>) -> usize
+    ensures { result ≡ min (length places.now.numbers.now / 4) (length places.now.edges.now / 8) }
 {
-    let fours = numbers / NUMBERS;
-    let eights = edges / EDGES;
-    if fours < eights {
-        return fours;
-    }
-    eights
+    (places.numbers.len() / NUMBERS).min(places.edges.len() / EDGES)
 }
 
 // How many placements are lent: a part left over in either row counts as one more.
-pub fn place_count(numbers: usize, edges: usize) -> usize
-    ensures { (ns : List ℕ) (es : List ℤ) → length ns ≡ numbers → length es ≡ edges → result ≡ length (placements_of ns es) }
+pub fn place_count(places: &FlatPlaces<'_>) -> usize
+    ensures { result ≡ length (placements_of places.now.numbers.now places.now.edges.now) }
 {
-    let whole = whole_places(numbers, edges);
-    if numbers != NUMBERS * whole {
-        return whole + 1;
+    let whole = whole_places(places);
+    if places.numbers.len() == NUMBERS * whole && places.edges.len() == EDGES * whole {
+        whole
+    } else {
+        whole + 1
     }
-    if edges != EDGES * whole {
-        return whole + 1;
-    }
-    whole
 }
 
 // Whether placement i passes 15.
-fn placement_fits(window: Rect, groups: &[u32], numbers: &[u32], edges: &[i32], i: usize) -> bool
-    requires { (4 * i + 4 ≤ length numbers.now) × (8 * i + 8 ≤ length edges.now) }
-    ensures { result ≡ placement_fits window groups.now (placement_at numbers.now edges.now i) }
+#[tactic(auto, unfolding(rule_calls::specs::Checks::placement_fits, rule_layouts::specs::Flat::placement_at))]
+fn placement_fits(window: Rect, places: &FlatPlaces<'_>, i: usize) -> bool
+    requires { (4 * i + 4 ≤ length places.now.numbers.now) × (8 * i + 8 ≤ length places.now.edges.now) }
+    ensures { result ≡ placement_fits window places.now.groups.now (placement_at places.now.numbers.now places.now.edges.now i) }
 {
-    if numbers[NUMBERS * i] > LAST_SPEC {
-        return false;
-    }
-    if groups.len() <= group_at(numbers, i) {
-        return false;
-    }
-    let footprint = footprint_at(edges, i);
-    if !ground_rects::nonempty(footprint) {
-        return false;
-    }
-    if !ground_rects::nonempty(collision_at(edges, i)) {
-        return false;
-    }
-    ground_rects::holds(window, footprint)
+    let footprint = places.footprint(i);
+    places.numbers[NUMBERS * i] <= LAST_SPEC
+        && places.group(i) < places.groups.len()
+        && ground_rects::nonempty(footprint)
+        && ground_rects::nonempty(places.collision(i))
+        && ground_rects::holds(window, footprint)
 }
 
-// The first of n placements that does not pass 15, or n.
-fn first_misplaced(window: Rect, groups: &[u32], numbers: &[u32], edges: &[i32], n: usize) -> usize
-    requires { (4 * n ≤ length numbers.now) × (8 * n ≤ length edges.now) }
-    ensures { Misplaced window groups.now numbers.now edges.now n result }
+// The first of n placements that does not pass 15.
+fn first_misplaced(window: Rect, places: &FlatPlaces<'_>, n: usize) -> Option<usize>
+    requires { (4 * n ≤ length places.now.numbers.now) × (8 * n ≤ length places.now.edges.now) }
+    ensures { Misplaced window places.now.groups.now places.now.numbers.now places.now.edges.now n (unwrap_or result n) }
 {
-    let mut i = 0;
-    while i < n {
-        if !placement_fits(window, groups, numbers, edges, i) {
-            return i;
-        }
-        i += 1;
-    }
-    n
+    (0..n).find(|&i| !placement_fits(window, places, i))
 }
 
 // 14 and 15.
-pub fn check_places(window: Rect, groups: &[u32], numbers: &[u32], edges: &[i32]) -> Answer
-    ensures { (i : Inputs) → i.query.window ≡ window → i.groups ≡ groups.now
-        → i.places ≡ placements_of numbers.now edges.now → reply_of result ≡ first (place_checks i) }
+pub fn check_places(window: Rect, places: &FlatPlaces<'_>) -> Result<(), Refusal>
+    ensures { (i : Inputs) → i.query.window ≡ window → i.groups ≡ places.now.groups.now
+        → i.places ≡ placements_of places.now.numbers.now places.now.edges.now → reply_of result ≡ first (place_checks i) }
 {
-    let n = place_count(numbers.len(), edges.len());
+    let n = place_count(places);
     if n > PLACES {
-        return Answer::Refused(Refusal::TooManyPlacements);
+        return Err(Refusal::TooManyPlacements);
     }
-    let whole = whole_places(numbers.len(), edges.len());
-    let at = first_misplaced(window, groups, numbers, edges, whole);
+    // what is left over in the rows is one more placement, which does not pass
+    let whole = whole_places(places);
+    let at = first_misplaced(window, places, whole).unwrap_or(whole);
     if at < n {
-        return Answer::Refused(Refusal::PlacementInvalid(at as u32));
+        return Err(Refusal::PlacementInvalid(at as u32));
     }
-    Answer::Done
+    Ok(())
 }
 
 // Whether the working areas and those that hold a search are long enough.
@@ -246,39 +208,24 @@ fn room_for(
     ensures { (i : Inputs) (w : Work) (s : Store) → i.query ≡ query → length i.places ≡ places → WorkHas w work
         → StoreHas s store → result ≡ (work_fits i.query.window w && store_fits i limits s) }
 {
-    if !call_lengths::work_fits(query.window, work) {
-        return false;
-    }
-    call_lengths::store_fits(query, limits, places, store)
+    call_lengths::work_fits(query.window, work)
+        && call_lengths::store_fits(query, limits, places, store)
 }
 
-// 10, 11, 12, 2, 3, 4 and 6, for so many placements and areas of these lengths.
+// 10, 11, 12, 2, 3, 4 and 6, for areas of these lengths.
 pub fn begin_checks(
-    query: Query,
+    given: &Given<'_>,
     limits: Limits,
-    groups: &[u32],
-    places: usize,
-    block_base: &[u8],
-    allow_base: &[u8],
     work: WorkLengths,
     store: StoreLengths,
-) -> Answer
-    ensures { (i : Inputs) (w : Work) (s : Store) → i.query ≡ query → i.groups ≡ groups.now → length i.places ≡ places
-        → i.block_base ≡ block_base.now → i.allow_base ≡ allow_base.now → WorkHas w work → StoreHas s store
-        → reply_of result ≡ first (begin_checks i limits w s) }
+) -> Result<(), Refusal>
+    ensures { (w : Work) (s : Store) → WorkHas w work → StoreHas s store
+        → reply_of result ≡ first (begin_checks (inputs_in given.now) limits w s) }
 {
-    let grouped = check_groups(groups);
-    if let Answer::Refused(r) = grouped {
-        return Answer::Refused(r);
-    }
-    let limited = check_limits(limits);
-    if let Answer::Refused(r) = limited {
-        return Answer::Refused(r);
-    }
-    let framed = check_query(query);
-    if let Answer::Refused(r) = framed {
-        return Answer::Refused(r);
-    }
-    let long = room_for(query, limits, places, work, store);
-    check_areas(query, block_base, allow_base, long)
+    check_groups(given.places.groups)?;
+    check_limits(limits)?;
+    check_query(given.query)?;
+    let places = place_count(&given.places);
+    let long = room_for(given.query, limits, places, work, store);
+    check_areas(given, long)
 }

@@ -1,46 +1,35 @@
--- `call_checks::check_places` meets its contract: each return is that of the first check that fails.
-use mathlib.Core.Path.{◌≡◌, refl, subst}
+-- `call_checks::check_places` meets its contract.
+use mathlib.Core.Path.{sym, subst}
 use Prim.Native.Nat.{ℕ}
 use native.Mathlib.Omega.{arith}
-use lib.ListN.{length}
 use Rattle.base_model.specs.Answers.{reply_of, said_of}
-use Rattle.rule_layouts.specs.Flat.{wholes, placements_of}
+use Rattle.rule_layouts.specs.Flat.{wholes}
 use Rattle.call_checks.specs.Parts.{Misplaced}
 use Rattle.call_checks.proofs.Placed.{places_many, place_refused, places_pass}
 use Rattle.call_checks.proofs.check_places.Goals as goal
 
 pub returns-then-n-gt-PLACES : goal.returns-then-n-gt-PLACES
 unfolding reply_of said_of
-returns-then-n-gt-PLACES c =
-    λ i e f g.
-    let a = c.args in
-    let n : c.place_count-n.result ≡ length (placements_of a.numbers.now a.edges.now) = c.place_count-n.ensures a.numbers.now a.edges.now refl refl in
-    places_many i a.window a.groups.now a.numbers.now a.edges.now e f g (omega (arith, n, c.if-n-gt-PLACES.true))
-
-pub first_misplaced-at-requires : goal.first_misplaced-at-requires
-first_misplaced-at-requires c = (omega (arith, c.whole_places-whole.ensures), omega (arith, c.whole_places-whole.ensures))
-
-pub overflow_cast-result : goal.overflow_cast-result
-overflow_cast-result c = omega (arith, c.if-n-gt-PLACES.false, c.if-at-n.true)
+returns-then-n-gt-PLACES c = λ i e f g.
+    let p = c.args.places.now in
+    places_many i c.args.window p.groups.now p.numbers.now p.edges.now e f g (omega (arith, c.place_count-n.ensures, c.if-n-gt-PLACES.true))
 
 pub returns-then-at-n : goal.returns-then-at-n
 unfolding reply_of said_of wholes
-returns-then-at-n c =
-    λ i e f g.
-    let a = c.args in
-    let n : c.place_count-n.result ≡ length (placements_of a.numbers.now a.edges.now) = c.place_count-n.ensures a.numbers.now a.edges.now refl refl in
-    let m = subst (λ (k : ℕ). Misplaced a.window a.groups.now a.numbers.now a.edges.now k
-    c.first_misplaced-at.result) c.whole_places-whole.ensures c.first_misplaced-at.ensures in
-    place_refused i a.window a.groups.now a.numbers.now a.edges.now e f g
-    (omega (arith, n, c.if-n-gt-PLACES.false)) c.first_misplaced-at.result m (omega (arith, n, c.if-at-n.true))
+returns-then-at-n c = λ i e f g.
+    let p = c.args.places.now in
+    let m = subst (λ (k : ℕ). Misplaced c.args.window p.groups.now p.numbers.now p.edges.now k c.unwrap_or-at.result) c.whole_places-whole.ensures
+    (subst (λ (r : ℕ). Misplaced c.args.window p.groups.now p.numbers.now p.edges.now c.whole_places-whole.result r) (sym c.unwrap_or-at.ensures)
+    c.first_misplaced.ensures) in
+    place_refused i c.args.window p.groups.now p.numbers.now p.edges.now e f g
+    (omega (arith, c.place_count-n.ensures, c.if-n-gt-PLACES.false)) c.unwrap_or-at.result m (omega (arith, c.place_count-n.ensures, c.if-at-n.true))
 
 pub returns : goal.returns
 unfolding reply_of said_of wholes
-returns c =
-    λ i e f g.
-    let a = c.args in
-    let n : c.place_count-n.result ≡ length (placements_of a.numbers.now a.edges.now) = c.place_count-n.ensures a.numbers.now a.edges.now refl refl in
-    let m = subst (λ (k : ℕ). Misplaced a.window a.groups.now a.numbers.now a.edges.now k
-    c.first_misplaced-at.result) c.whole_places-whole.ensures c.first_misplaced-at.ensures in
-    places_pass i a.window a.groups.now a.numbers.now a.edges.now e f g
-    (omega (arith, n, c.if-n-gt-PLACES.false)) c.first_misplaced-at.result m (omega (arith, n, c.if-at-n.false))
+returns c = λ i e f g.
+    let p = c.args.places.now in
+    let m = subst (λ (k : ℕ). Misplaced c.args.window p.groups.now p.numbers.now p.edges.now k c.unwrap_or-at.result) c.whole_places-whole.ensures
+    (subst (λ (r : ℕ). Misplaced c.args.window p.groups.now p.numbers.now p.edges.now c.whole_places-whole.result r) (sym c.unwrap_or-at.ensures)
+    c.first_misplaced.ensures) in
+    places_pass i c.args.window p.groups.now p.numbers.now p.edges.now e f g
+    (omega (arith, c.place_count-n.ensures, c.if-n-gt-PLACES.false)) c.unwrap_or-at.result m (omega (arith, c.place_count-n.ensures, c.if-at-n.false))

@@ -1,32 +1,18 @@
--- `call_checks::check_query` meets its contract: each return is that of the first check that fails.
-use mathlib.Core.Path.{sym, ◌∙◌}
-use Rattle.base_model.specs.Answers.{reply_of, said_of}
-use Rattle.call_checks.proofs.Asked.{window_refused, ends_refused, movers_refused, frames_pass}
+-- `call_checks::check_query` meets its contract.
+use Rattle.std.proofs.Common.{arith}
+use Rattle.std.proofs.lemmas.Grind.{common_steps}
+use Rattle.base_model.specs.Answers.{reply_of, said_of, ask, first}
+use Rattle.call_checks.specs.Parts.{frame_checks, frames_of}
 use Rattle.call_checks.proofs.check_query.Goals as goal
 
-pub returns-then-not-window_fits : goal.returns-then-not-window_fits
-unfolding reply_of said_of
-returns-then-not-window_fits c = λ i e. window_refused i c.args.query e (sym c.window_fits.ensures ∙ c.if-not-window_fits.true)
+pub returns-in_err-ask : goal.returns-in_err-ask
+unfolding frame_checks frames_of reply_of said_of ask first
+returns-in_err-ask c = λ i e. grind (arith, common_steps, c.from_residual.ensures, c.in_err-ask.was, c.ask.ensures, e)
 
-pub returns-then-not-ends_inside : goal.returns-then-not-ends_inside
-unfolding reply_of said_of
-returns-then-not-ends_inside c =
-    λ i e.
-    ends_refused i c.args.query e (sym c.window_fits.ensures ∙ c.if-not-window_fits.false)
-    (sym c.ends_inside.ensures ∙ c.if-not-ends_inside.true)
-
-pub returns-then-not-movers_small : goal.returns-then-not-movers_small
-unfolding reply_of said_of
-returns-then-not-movers_small c =
-    λ i e.
-    movers_refused i c.args.query e (sym c.window_fits.ensures ∙ c.if-not-window_fits.false)
-    (sym c.ends_inside.ensures ∙ c.if-not-ends_inside.false)
-    (sym c.movers_small.ensures ∙ c.if-not-movers_small.true)
+pub returns-in_err-ask-2 : goal.returns-in_err-ask-2
+unfolding frame_checks frames_of reply_of said_of ask first
+returns-in_err-ask-2 c = λ i e. grind (arith, common_steps, c.from_residual-in_err-ask-2.ensures, c.in_err-ask-2.was, c.in_ok-ask.was, c.ask.ensures, c.ask-2.ensures, e)
 
 pub returns : goal.returns
-unfolding reply_of said_of
-returns c =
-    λ i e.
-    frames_pass i c.args.query e (sym c.window_fits.ensures ∙ c.if-not-window_fits.false)
-    (sym c.ends_inside.ensures ∙ c.if-not-ends_inside.false)
-    (sym c.movers_small.ensures ∙ c.if-not-movers_small.false)
+unfolding frame_checks frames_of reply_of said_of ask first
+returns c = λ i e. grind (arith, common_steps, c.in_ok-ask.was, c.in_ok-ask-2.was, c.ask.ensures, c.ask-2.ensures, c.ask-3.ensures, e)

@@ -1,29 +1,17 @@
--- The answers to the goals of `call_checks::first_misplaced`.
-use mathlib.Core.Path.{sym, ◌∙◌}
-use native.Mathlib.Omega.{arith}
-use borrow.Author.Count.{below_more}
+-- `call_checks::first_misplaced` meets its contract: the index found is the first at which a placement does not pass.
+use mathlib.Core.Path.{◌≡◌}
+use mathlib.Core.Bool.{true, false}
+use Prim.Native.Nat.{ℕ}
+use Rattle.std.proofs.Common.{rules}
+use Rattle.std.proofs.lemmas.Iterator.{first_from_Range}
+use Rattle.rule_layouts.specs.Flat.{placement_at}
+use Rattle.rule_calls.specs.Checks.{placement_fits}
+use Rattle.call_checks.proofs.Placed.{misplaced_at}
 use Rattle.call_checks.proofs.first_misplaced.Goals as goal
 
-pub loop-i-init : goal.loop-i-init
-loop-i-init c = (omega arith, λ k h. absurd (omega arith))
-
-pub placement_fits-requires : goal.placement_fits-requires
-placement_fits-requires c = (omega (arith, c.requires.0, c.loop-i-test.true), omega (arith, c.requires.1, c.loop-i-test.true))
-
-pub returns-then-not-placement_fits : goal.returns-then-not-placement_fits
-returns-then-not-placement_fits c = record {
-  within = omega (arith, c.loop-i-test.true);
-  before = c.loop-i.invariant.1;
-  fails =
-      λ h. sym c.placement_fits.ensures ∙ c.if-not-placement_fits.true;
-}
-
-pub loop-i-preserved : goal.loop-i-preserved
-loop-i-preserved c = (
-  omega (arith, c.loop-i-test.true),
-  below_more _ _ c.loop-i.invariant.1
-      (sym c.placement_fits.ensures ∙ c.if-not-placement_fits.false),
-)
-
 pub returns : goal.returns
-returns c = record { within = omega arith; before = λ k h. c.loop-i.invariant.1 k (omega (arith, c.loop-i-test.false)); fails = λ h. absurd (omega arith) }
+returns c =
+    let p = c.args.places.now in
+    let fits = λ (k : ℕ). placement_fits c.args.window p.groups.now (placement_at p.numbers.now p.edges.now k) in
+    misplaced_at c.args.window p.groups.now p.numbers.now p.edges.now c.args.n c.find.result
+    (first_from_Range _ _ _ c.find.result (λ (k : ℕ). fits k ≡ false) (λ (k : ℕ). fits k ≡ true) c.find.ensures.ran (λ x q k. search rules) (λ x q k. search rules))
