@@ -19,7 +19,7 @@ use Rattle.rule_layouts.specs.Boards.{Places, may_join}
 use Rattle.rule_search.specs.State.{last_taken, set_on}
 use Rattle.rule_calls.specs.Areas.{list_of, lists_of}
 use Rattle.call_rows.proofs.Tests.{below_none, below_more}
-use Rattle.call_lists.specs.Lent.{entry_fits, head_fits, stood, list_passes, Members}
+use Rattle.call_lists.specs.Lent.{entry_fits, head_fits, stood, list_passes}
 use Rattle.call_lists.proofs.Tests.{all_same, or_none}
 use Rattle.call_lists.proofs.Joins.{last_of, join_order}
 
@@ -49,21 +49,17 @@ head_facts r n next length k e =
 
 module _ (p : Places) (r : Record) (lists : List ℕ) where
   -- the first k lists pass, and their last taken placements stand in `members`
-  pub record Built (n count : ℕ) (members : List ℕ) (k : ℕ) : Type 0 where
-    pub counted : count ≡ r.lists
-    pub within : k ≤ count
+  pub record Built (members : List ℕ) (k : ℕ) : Type 0 where
     pub passed : all_of (list_passes p r lists) (below k) ≡ true
-    pub placed : Members n k members
+    pub placed : (j : ℕ) → j < k → get_or members j 0 < p.count
     pub size : length members ≡ 6
     pub are : take k members ≡ map (last_of r lists) (below k)
 
-  pub built_none : (n count : ℕ) (members : List ℕ) → count ≡ r.lists → length members ≡ 6 → Built n count members 0
+  pub built_none : (members : List ℕ) → length members ≡ 6 → Built members 0
   unfolding below span
-  built_none n count members c e = record {
-    counted = c;
-    within = omega arith;
+  built_none members e = record {
     passed = below_none (list_passes p r lists);
-    placed = record { six = omega arith; named = λ j h. absurd (omega arith) };
+    placed = λ j h. absurd (omega arith);
     size = e;
     are = refl;
   }
@@ -109,23 +105,18 @@ module _ (p : Places) (r : Record) (lists : List ℕ) where
       let t = both (ltb (get_or xs m 0) p.count) (may_join p s (get_or xs m 0)) (all_member (entry_fits p s) xs a (get_or xs m 0) (get_d_member xs m 0 (omega arith))) in
       omega (arith, ltb-true (get_or xs m 0) p.count t.0, e)
 
-  pub built_more : (count : ℕ) (members : List ℕ) (k m v : ℕ) → Built p.count count members k → k < count → r.lists ≤ 6
+  pub built_more : (members : List ℕ) (k m v : ℕ) → Built members k → k < 6
       → head_fits p.count (get_or r.nexts k 0) (get_or r.lengths k 0) (stood r k) ≡ true
       → all_of (entry_fits p (take k members)) (take (get_or r.lengths k 0) (drop (k * r.placements) lists)) ≡ true
       → k * r.placements + get_or r.lengths k 0 ≤ length lists → get_or r.nexts k 0 ≡ suc m → v ≡ get_or lists (k * r.placements + m) 0
-      → Built p.count count (set members k v) (k + 1)
-  built_more count members k m v b h d head all l e w =
+      → Built (set members k v) (k + 1)
+  built_more members k m v b h head all l e w =
       let f = head_facts r p.count (get_or r.nexts k 0) (get_or r.lengths k 0) k head in
       let j : m < get_or r.lengths k 0 = omega (arith, f.inside) in
-      let c : k < length members = omega (arith, b.size, b.counted) in
+      let c : k < length members = omega (arith, b.size) in
       record {
-        counted = b.counted;
-        within = omega arith;
         passed = below_more (list_passes p r lists) k b.passed (list_passes_lem k members b.are head all);
-        placed = record {
-          six = omega (arith, b.counted);
-          named = λ i q. named i q (ℕ_discrete i k);
-        };
+        placed = λ i q. named i q (ℕ_discrete i k);
         size = length-set members k v ∙ b.size;
         are =
             ap (λ (x : ℕ). take x (set members k v)) (add-one k)
@@ -140,9 +131,9 @@ module _ (p : Places) (r : Record) (lists : List ℕ) where
           omega (
             arith,
             ap (λ (x : ℕ). get_or (set members k v) x 0) z,
-            get_or-set_same members k v 0 (omega (arith, b.size, b.counted)),
+            get_or-set_same members k v 0 (omega (arith, b.size)),
             last_named (take k members) k m all (omega (arith, f.inside)) l,
           )
       named i q (no z) =
           let d : i ≡ k → ⊥ = z in
-          omega (arith, get_or-set_other members k i v 0 z, b.placed.named i (omega arith))
+          omega (arith, get_or-set_other members k i v 0 z, b.placed i (omega arith))

@@ -2,16 +2,16 @@
 -- placements last taken from them as members.
 use Prim.Native.Nat.{ℕ, zero, suc, ◌+◌, ◌*◌, ◌≤◌, ◌<◌}
 use mathlib.Core.Path.{◌≡◌, refl, sym, ◌∙◌, ap}
-use mathlib.Core.Bool.{Bool, true, false, not, ◌&&◌, ◌||◌, or_comm, or_assoc, false≢true}
+use mathlib.Core.Bool.{Bool, true, false, not, ◌&&◌, ◌||◌, or_comm, or_assoc}
 use mathlib.Core.List.{List, [], ◌∷◌, ◌++◌, map, map-append}
-use native.Mathlib.Numerals.{add-one}
 use native.Mathlib.Omega.{arith}
 use lib.Dec.{eqb, ltb}
 use lib.IntN.{ℤ}
-use lib.ListN.{length, get_or, take, drop, drop_of_length-le, length-append}
-use lib.Seq.{drop-cons, get_or-take, length-take-le}
-use borrow.Author.Tests.{eq-eqb, ne_eqb}
-use Rattle.base_laws.specs.Lists.{any_of, select, span, below, member, put_in}
+use lib.ListN.{length, get_or, length-append}
+use Rattle.std.specs.List.{list_all}
+use Rattle.std.specs.Ordering.{is_lt}
+use Rattle.std.proofs.lemmas.Grind.{get_or_default_zero}
+use Rattle.base_laws.specs.Lists.{any_of, all_of, select, span, below, member, put_in}
 use Rattle.base_laws.proofs.Members.{either}
 use Rattle.base_laws.proofs.Sets.{count_cons, count_insert}
 use Rattle.base_laws.proofs.Tests.{below_last, any_append, filter_append}
@@ -21,44 +21,36 @@ use Rattle.rule_layouts.specs.Boards.{Places, used, may_join}
 use Rattle.rule_layouts.specs.Flat.{rect_at, places_in}
 use Rattle.rule_search.specs.State.{last_taken, set_on}
 use Rattle.rule_calls.specs.Areas.{list_of, lists_of}
-use Rattle.set_places.specs.Groups.{of_group, InRow}
-use Rattle.call_lists.specs.Lent.{Rows, apart, Members}
+use Rattle.set_places.specs.declared.FlatPlaces.{FlatPlaces}
+use Rattle.set_places.specs.Groups.{of_group, taken}
+use Rattle.set_places.proofs.Members.{all_is, fewer_is}
+use Rattle.call_lists.specs.Lent.{apart, entry_fits, Beside}
 use Rattle.call_lists.proofs.Tests.{or_none}
 
--- ---- the first k members: the four numbers of each stand in the row
-pub in_row : {n k : ℕ} {groups numbers : List ℕ} {edges : List ℤ} {members : List ℕ} → length members ≡ 6 → Rows n groups numbers edges → Members n k members → InRow numbers (take k members)
-in_row {k = k} {members = xs} six r m = record {
-  whole = λ j h.
-      let i : j < k = omega (arith, length-take-le k xs (omega (arith, six, m.six))) in
-      omega (arith, get_or-take k xs j 0 i, m.named j i, r.fours);
-}
+-- ---- the members, one at a time
+neither_nor : (a b c d : Bool) → (not a && not b) && (not c && not d) ≡ not (a || c) && not (b || d)
+neither_nor true b c d = refl
+neither_nor false true true d = refl
+neither_nor false true false d = refl
+neither_nor false false c d = refl
 
--- ---- members from place j on
-and_not_or : (a b c : Bool) → b ≡ true → a && not (b || c) ≡ false
-and_not_or true true c e = refl
-and_not_or false true c e = refl
-and_not_or true false c e = absurd (false≢true e)
-and_not_or false false c e = refl
+pub edges_at : {n e : ℕ} {p : FlatPlaces} {s : List ℕ} → Beside n p s e → (k x : ℕ) → k < length s → x ≡ get_or s k x → 8 * x + 8 ≤ length p.edges.now
+edges_at {s = s} b k x h q =
+    let z = q ∙ get_or_default_zero s k x h in omega (arith, b.entries.rows.eights, b.entries.set.named k h, z)
 
-module _ (edges : List ℤ) (s : List ℕ) (e j : ℕ) (h : j < length s) where
-  pub apart_member : e ≡ get_or s j 0 → apart edges (drop j s) e ≡ false
-  unfolding apart member any_of
-  apart_member q = rw (drop-cons s j 0 h, any_of, eq-eqb e (get_or s j 0) q)
-
-  pub apart_overlap : intersects (rect_at edges (8 * e)) (rect_at edges (8 * get_or s j 0)) ≡ true → apart edges (drop j s) e ≡ false
-  unfolding apart member any_of
-  apart_overlap q =
-      rw (drop-cons s j 0 h)
-      (and_not_or (not (any_of (λ (x : ℕ). eqb e x) (get_or s j 0 ∷ drop (suc j) s))) (intersects (rect_at edges (8 * e)) (rect_at edges (8 * get_or s j 0)))
-      (any_of (λ (x : ℕ). intersects (rect_at edges (8 * e)) (rect_at edges (8 * x))) (drop (suc j) s)) q)
-
-  pub apart_on : (e ≡ get_or s j 0 → ⊥) → intersects (rect_at edges (8 * e)) (rect_at edges (8 * get_or s j 0)) ≡ false → apart edges (drop j s) e ≡ apart edges (drop (j + 1) s) e
-  unfolding apart member any_of
-  apart_on d q = rw (drop-cons s j 0 h, any_of, ne_eqb e (get_or s j 0) d, q, add-one j)
-
-pub apart_end : (edges : List ℤ) (s : List ℕ) (e j : ℕ) → length s ≤ j → apart edges (drop j s) e ≡ true
+pub all_apart : (edges : List ℤ) (s : List ℕ) (e : ℕ)
+    → list_all (λ (x : ℕ). not (eqb e x) && not (intersects (rect_at edges (8 * e)) (rect_at edges (8 * x)))) s ≡ apart edges s e
 unfolding apart member any_of
-apart_end edges s e j h = rw (drop_of_length-le s h)
+all_apart edges [] e = refl
+all_apart edges (x ∷ s) e =
+    ap (λ (b : Bool). (not (eqb e x) && not (intersects (rect_at edges (8 * e)) (rect_at edges (8 * x)))) && b) (all_apart edges s e)
+    ∙ neither_nor (eqb e x) (intersects (rect_at edges (8 * e)) (rect_at edges (8 * x))) (any_of (λ (j : ℕ). eqb e j) s)
+    (any_of (λ (j : ℕ). intersects (rect_at edges (8 * e)) (rect_at edges (8 * j))) s)
+
+pub all_entries : (m n : ℕ) (groups numbers : List ℕ) (edges : List ℤ) (s es : List ℕ)
+    → list_all (λ (x : ℕ). ltb x n && may_join (places_in m groups numbers edges) s x) es ≡ all_of (entry_fits (places_in n groups numbers edges) s) es
+unfolding entry_fits may_join places_in used
+all_entries m n groups numbers edges s es = all_is (λ (x : ℕ). ltb x n && may_join (places_in m groups numbers edges) s x) es
 
 -- ---- the test by its parts
 shuffle : (a b c : Bool) → a && b && c ≡ (a && c) && b
@@ -72,11 +64,12 @@ shuffle true false false = refl
 shuffle false b c = refl
 
 pub join_parts : (n : ℕ) (groups numbers : List ℕ) (edges : List ℤ) (s : List ℕ) (e : ℕ)
-    → may_join (places_in n groups numbers edges) s e ≡ (apart edges s e && ltb (of_group numbers (get_or numbers (4 * e + 1) 0) s) (get_or groups (get_or numbers (4 * e + 1) 0) 0))
+    → may_join (places_in n groups numbers edges) s e ≡ (apart edges s e && is_lt (taken groups numbers s e))
 unfolding may_join places_in apart used of_group
 join_parts n groups numbers edges s e =
     shuffle (not (member e s)) (ltb (of_group numbers (get_or numbers (4 * e + 1) 0) s) (get_or groups (get_or numbers (4 * e + 1) 0) 0))
     (not (any_of (λ (j : ℕ). intersects (rect_at edges (8 * e)) (rect_at edges (8 * j))) s))
+    ∙ ap (λ (b : Bool). apart edges s e && b) (sym (fewer_is _ _))
 
 -- ---- in any order
 any_insert : (f : ℕ → Bool) (i : ℕ) (s : List ℕ) → any_of f (put_in i s) ≡ (f i || any_of f s)

@@ -1,3 +1,4 @@
 pub mod Tests
 pub mod Joins
 pub mod Built
+pub mod Turns

@@ -5,6 +5,7 @@ use Rattle.base_model.specs.declared.Record.{Record}
 use Rattle.ground_rects.specs.Rects.{intersects}
 use Rattle.rule_layouts.specs.Boards.{Places, may_join}
 use Rattle.rule_layouts.specs.Flat.{rect_at}
+use Rattle.set_places.specs.declared.FlatPlaces.{FlatPlaces}
 use Rattle.rule_search.specs.State.{set_on}
 use Rattle.rule_calls.specs.Areas.{list_of, lists_of}
 
@@ -35,25 +36,22 @@ list_passes p r lists k =
     head_fits p.count (get_or r.nexts k 0) (get_or r.lengths k 0) (stood r k)
     && all_of (entry_fits p (set_on (lists_of r lists k))) (list_of r lists k).entries
 
--- the first k members are placements
-pub record Members (n k : ℕ) (members : List ℕ) : Type 0 where
-  pub six : k ≤ 6
-  pub named : (j : ℕ) → j < k → get_or members j 0 < n
+-- the members are placements
+pub record Members (n : ℕ) (members : List ℕ) : Type 0 where
+  pub named : (j : ℕ) → j < length members → get_or members j 0 < n
+
+-- entries beside members
+pub record Entries (n : ℕ) (p : FlatPlaces) (members : List ℕ) : Type 0 where
+  pub rows : Rows n p.groups.now p.numbers.now p.edges.now
+  pub set : Members n members
 
 -- a placement beside members
-pub record Beside (n : ℕ) (groups numbers : List ℕ) (edges : List ℤ) (members : List ℕ) (k e : ℕ) : Type 0 where
-  pub rows : Rows n groups numbers edges
-  pub set : Members n k members
+pub record Beside (n : ℕ) (p : FlatPlaces) (members : List ℕ) (e : ℕ) : Type 0 where
+  pub entries : Entries n p members
   pub placed : e < n
 
--- a list's entries beside members
-pub record Entries (n : ℕ) (groups numbers : List ℕ) (edges : List ℤ) (members : List ℕ) (k : ℕ) (lists : List ℕ) (at count : ℕ) : Type 0 where
-  pub rows : Rows n groups numbers edges
-  pub set : Members n k members
-  pub inside : at + count ≤ length lists
-
-pub record Lists (n : ℕ) (groups numbers : List ℕ) (edges : List ℤ) (r : Record) (lists : List ℕ) : Type 0 where
-  pub rows : Rows n groups numbers edges
+pub record Lists (n : ℕ) (p : FlatPlaces) (r : Record) (lists : List ℕ) : Type 0 where
+  pub rows : Rows n p.groups.now p.numbers.now p.edges.now
   pub long : 6 * n ≤ length lists
   pub deep : r.lists ≤ 6
   pub places : r.placements ≡ n

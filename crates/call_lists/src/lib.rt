@@ -1,140 +1,80 @@
 // Check 16, on the lists of a record.
 #![tactic(auto)]
 
-ghost use Rattle.std.specs.Prelude.{◌≡◌, ◌*◌, ◌<◌, length, take, drop};
+ghost use Rattle.std.specs.Prelude.{◌≡◌, ℕ, ◌/◌, ◌<◌, length};
 ghost use Rattle.base_laws.specs.Lists.{all_of, below};
 ghost use Rattle.rule_layouts.specs.Boards as boards;
-ghost use Rattle.rule_layouts.specs.Flat.{places_in};
-ghost use Rattle.call_lists.specs.Lent.{apart, entry_fits, head_fits, stood, list_passes, Members, Beside, Entries, Lists};
+ghost use Rattle.set_places.specs.Given.{places_at};
+ghost use Rattle.call_lists.specs.Lent.{apart, entry_fits, head_fits, stood, list_passes, Beside, Entries, Lists};
 
-use base_model::{Record, SLOTS, index, member};
-use set_places::{count_in_group, footprint_at, group_at};
+use base_model::{Record, SLOTS};
+use set_places::FlatPlaces;
 
-// Whether placement e is none of the first k members and overlaps none.
-fn stands_apart(n: usize, edges: &[i32], members: [u16; SLOTS], k: usize, e: usize) -> bool
-    requires { (length edges.now ≡ 8 * n) × Members n k members × (e < n) }
-    ensures { result ≡ apart edges.now (take k members) e }
+// Whether placement e is no member and overlaps none.
+#[tactic(auto, using(crate::proofs::Joins::all_apart))]
+fn stands_apart(places: &FlatPlaces<'_>, members: &[u16], e: usize) -> bool
+    requires { Beside (length places.now.numbers.now / 4) places.now members.now e }
+    ensures { result ≡ apart places.now.edges.now members.now e }
 {
-    let own = footprint_at(edges, e);
-    let mut j = 0;
-    while j < k {
-        let m = member(members[j]);
-        if m == e {
-            return false;
-        }
-        if ground_rects::intersects(own, footprint_at(edges, m)) {
-            return false;
-        }
-        j += 1;
-    }
-    true
+    let own = places.footprint(e);
+    members.iter().all(|&m| {
+        let m = m as usize;
+        e != m && !ground_rects::intersects(own, places.footprint(m))
+    })
 }
 
-// Whether placement e may join the first k members.
-fn may_join(
-    n: usize,
-    groups: &[u32],
-    numbers: &[u32],
-    edges: &[i32],
-    members: [u16; SLOTS],
-    k: usize,
-    e: usize,
-) -> bool
-    requires { Beside n groups.now numbers.now edges.now members k e }
-    ensures { result ≡ boards.may_join (places_in n groups.now numbers.now edges.now) (take k members)
-        e }
+// Whether placement e may join the members.
+#[tactic(auto, using(crate::proofs::Joins::join_parts))]
+fn may_join(places: &FlatPlaces<'_>, members: &[u16], e: usize) -> bool
+    requires { Beside (length places.now.numbers.now / 4) places.now members.now e }
+    ensures { result ≡ boards.may_join (places_at (length places.now.numbers.now / 4) places.now) members.now e }
 {
-    if !stands_apart(n, edges, members, k, e) {
-        return false;
-    }
-    let group = group_at(numbers, e);
-    count_in_group(numbers, &members[..k], group) < index(groups[group])
+    stands_apart(places, members, e) && places.slots_taken(members, e).is_lt()
 }
 
-// Whether `count` entries from `at` on are placements that may join the first k members.
-fn entries_join(
-    n: usize,
-    groups: &[u32],
-    numbers: &[u32],
-    edges: &[i32],
-    members: [u16; SLOTS],
-    k: usize,
-    lists: &[u16],
-    at: usize,
-    count: usize,
-) -> bool
-    requires { Entries n groups.now numbers.now edges.now members k lists.now at count }
-    ensures { result ≡ all_of (entry_fits (places_in n groups.now numbers.now edges.now) (take k members))
-        (take count (drop at lists.now)) }
+// Whether the entries are placements that may join the members.
+#[tactic(auto, using(crate::proofs::Joins::all_entries))]
+fn entries_join(n: usize, places: &FlatPlaces<'_>, members: &[u16], entries: &[u16]) -> bool
+    requires { Entries n places.now members.now }
+    ensures { result ≡ all_of (entry_fits (places_at n places.now) members.now) entries.now }
 {
-    let mut j = 0;
-    while j < count {
-        let e = member(lists[at + j]);
-        if e >= n {
-            return false;
-        }
-        if !may_join(n, groups, numbers, edges, members, k, e) {
-            return false;
-        }
-        j += 1;
-    }
-    true
+    entries.iter().all(|&e| {
+        let e = e as usize;
+        e < n && may_join(places, members, e)
+    })
 }
 
 // Whether next ≤ length ≤ n, and next is above 0 where something stands on the list.
+#[tactic(auto, unfolding(crate::specs::Lent::head_fits))]
 fn head_fits(n: usize, next: usize, length: usize, stands: bool) -> bool
     ensures { result ≡ head_fits n next length stands }
 {
-    if next > length {
-        return false;
-    }
-    if length > n {
-        return false;
-    }
-    if next > 0 {
-        return true;
-    }
-    !stands
+    next <= length && length <= n && (!stands || next > 0)
 }
 
 // Whether a list or a pending set stands on list k.
+#[tactic(auto, unfolding(crate::specs::Lent::stood))]
 fn stood_on(rec: Record, k: usize) -> bool
     requires { k < 6 }
     ensures { result ≡ stood rec k }
 {
-    if k + 1 < index(rec.lists) {
-        return true;
-    }
-    rec.pending
+    k + 1 < rec.lists as usize || rec.pending
 }
 
 // Whether each list's entries are placements that may join its set. The set's members are the placements last taken from the lists below.
-pub fn lists_fit(
-    n: usize,
-    groups: &[u32],
-    numbers: &[u32],
-    edges: &[i32],
-    rec: Record,
-    lists: &[u16],
-) -> bool
-    requires { Lists n groups.now numbers.now edges.now rec lists.now }
-    ensures { result ≡ all_of
-        (list_passes (places_in n groups.now numbers.now edges.now) rec lists.now)
-        (below rec.lists) }
+pub fn lists_fit(n: usize, places: &FlatPlaces<'_>, rec: Record, lists: &[u16]) -> bool
+    requires { Lists n places.now rec lists.now }
+    ensures { result ≡ all_of (list_passes (places_at n places.now) rec lists.now) (below rec.lists) }
 {
-    let count = index(rec.lists);
-    let lengths = rec.lengths;
-    let nexts = rec.nexts;
     let mut members = [0u16; SLOTS];
-    let mut k = 0;
-    while k < count {
-        let length = index(lengths[k]);
-        let next = index(nexts[k]);
+    for k in 0..rec.lists as usize {
+        let length = rec.lengths[k] as usize;
+        let next = rec.nexts[k] as usize;
         if !head_fits(n, next, length, stood_on(rec, k)) {
             return false;
         }
         let at = k * n;
-        if !entries_join(n, groups, numbers, edges, members, k, lists, at, length) {
+        if !entries_join(n, places, &members[..k], &lists[at..at + length]) {
             return false;
         }
         // then nothing stands on the list, so that it is the last
@@ -142,7 +82,6 @@ pub fn lists_fit(
             return true;
         }
         members[k] = lists[at + next - 1];
-        k += 1;
     }
     true
 }

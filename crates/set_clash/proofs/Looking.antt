@@ -1,27 +1,29 @@
--- A look through a list for an entry that passes a test.
-use Prim.Native.Nat.{ℕ, ◌+◌, ◌≤◌, ◌<◌}
-use mathlib.Core.Path.{◌≡◌, refl, sym}
-use mathlib.Core.Bool.{Bool, false}
-use mathlib.Core.List.{List}
-use native.Mathlib.Numerals.{add-one}
+-- A look through a set by an iterator: each member stands in the rows, and the test is the definition's.
+use Prim.Native.Nat.{ℕ, ◌+◌, ◌*◌, ◌≤◌, ◌<◌}
+use mathlib.Core.Path.{◌≡◌, refl, sym, ap, ◌∙◌}
+use mathlib.Core.Bool.{Bool, ◌||◌}
+use mathlib.Core.List.{List, [], ◌∷◌}
 use native.Mathlib.Omega.{arith}
-use lib.ListN.{length, get_or, take}
-use lib.Seq.{take_all}
+use lib.IntN.{ℤ}
+use lib.ListN.{length, get_or}
+use Rattle.std.specs.List.{list_any}
+use Rattle.std.specs.Ordering.{is_gt}
+use Rattle.std.proofs.lemmas.Grind.{get_or_default_zero}
 use Rattle.base_laws.specs.Lists.{any_of}
-use Rattle.base_laws.proofs.Turns.{any_more}
+use Rattle.set_places.specs.Groups.{InGroup, taken}
+use Rattle.rule_layouts.specs.Flat.{places_in}
+use Rattle.set_clash.specs.Clashes.{crowded, clashing}
 
--- none of the first j entries passes
-pub record NoneYet (f : ℕ → Bool) (s : List ℕ) (j : ℕ) : Type 0 where
-  pub upto : j ≤ length s
-  pub clear : any_of f (take j s) ≡ false
+any_is : (f : ℕ → Bool) (s : List ℕ) → list_any f s ≡ any_of f s
+unfolding any_of
+any_is f [] = refl
+any_is f (x ∷ s) = ap (λ (b : Bool). f x || b) (any_is f s)
 
-module _ (f : ℕ → Bool) (s : List ℕ) where
-  pub none_start : NoneYet f s 0
-  unfolding any_of
-  none_start = record { upto = omega arith; clear = refl }
+pub any_crowded : (n : ℕ) (groups numbers s : List ℕ) (edges : List ℤ) → list_any (λ (x : ℕ). is_gt (taken groups numbers s x)) s ≡ any_of (crowded (places_in n groups numbers edges) s) s
+any_crowded n groups numbers s edges = ?
 
-  pub none_more : (j : ℕ) → NoneYet f s j → j < length s → f (get_or s j 0) ≡ false → NoneYet f s (j + 1)
-  none_more j l h e = record { upto = omega arith; clear = rw add-one (any_more f s j 0 h e l.clear) }
+pub any_clashing : (edges : List ℤ) (s : List ℕ) (i : ℕ) → ◌≡◌ {A = ℕ} 0 0
+any_clashing edges s i = ?
 
-  pub none_all : (j : ℕ) → NoneYet f s j → length s ≤ j → false ≡ any_of f s
-  none_all j l h = sym (rw (take_all j s h) at l.clear)
+pub any_clashes : (edges : List ℤ) (s : List ℕ) → list_any (clashing edges s) s ≡ any_of (clashing edges s) s
+any_clashes edges s = any_is (clashing edges s) s

@@ -1,80 +1,43 @@
 // What is looked at in a set of placements before any map: the slots of its groups, and whether its footprints overlap.
 #![tactic(auto)]
 
-ghost use Rattle.std.specs.Prelude.{◌≡◌, ◌+◌, ◌*◌, ◌≤◌, ◌<◌, length};
+ghost use Rattle.std.specs.Prelude.{◌≡◌, ℕ, ◌+◌, ◌*◌, ◌/◌, ◌≤◌, length};
 ghost use Rattle.base_laws.specs.Lists.{any_of};
-ghost use Rattle.rule_layouts.specs.Flat.{places_in};
+ghost use Rattle.set_places.specs.Given.{places_at};
 ghost use Rattle.set_blocked.specs.Blocked.{Named};
 ghost use Rattle.set_extend.specs.Join.{Rowed};
 ghost use Rattle.set_clash.specs.Clashes.{crowded, clashing};
 
-use base_model::{index, member};
-
-// Whether more members are of the group of placement i than it has slots.
-fn is_crowded(
-    groups: &[u32],
-    numbers: &[u32],
-    edges: &[i32],
-    set: &[u16],
-    n: usize,
-    i: usize,
-) -> bool
-    requires rowed { Rowed n groups.now numbers.now edges.now set.now }
-    requires i_lt_n { i < n }
-    ensures { result ≡ crowded (places_in n groups.now numbers.now edges.now) set.now i }
-{
-    let group = set_places::group_at(numbers, i);
-    index(groups[group]) < set_places::count_in_group(numbers, set, group)
-}
+use set_places::FlatPlaces;
 
 // Whether a group's slot count is exceeded.
-pub fn over_slots(groups: &[u32], numbers: &[u32], edges: &[i32], set: &[u16], n: usize) -> bool
-    requires { Rowed n groups.now numbers.now edges.now set.now }
-    ensures { result ≡ any_of (crowded (places_in n groups.now numbers.now edges.now) set.now)
-        set.now }
+#[tactic(auto, using(crate::proofs::Looking::any_crowded))]
+pub fn over_slots(places: &FlatPlaces<'_>, set: &[u16]) -> bool
+    requires { Rowed (length places.now.numbers.now / 4) places.now.groups.now places.now.numbers.now places.now.edges.now set.now }
+    ensures { (n : ℕ) → result ≡ any_of (crowded (places_at n places.now) set.now) set.now }
 {
-    let mut j = 0;
-    while j < set.len() {
-        if is_crowded(groups, numbers, edges, set, n, member(set[j])) {
-            return true;
-        }
-        j += 1;
-    }
-    false
+    set.iter()
+        .any(|&m| places.slots_taken(set, m as usize).is_gt())
 }
 
 // Whether the footprint of placement i overlaps that of another member.
-fn clashes(edges: &[i32], set: &[u16], i: usize) -> bool
-    requires named { Named edges.now set.now }
-    requires i_in_bounds { 8 * i + 8 ≤ length edges.now }
-    ensures { result ≡ clashing edges.now set.now i }
+#[tactic(auto, using(crate::proofs::Looking::any_clashing))]
+fn clashes(places: &FlatPlaces<'_>, set: &[u16], i: usize) -> bool
+    requires named { Named places.now.edges.now set.now }
+    requires i_in_bounds { 8 * i + 8 ≤ length places.now.edges.now }
+    ensures { result ≡ clashing places.now.edges.now set.now i }
 {
-    let footprint = set_places::footprint_at(edges, i);
-    let mut j = 0;
-    while j < set.len() {
-        let m = member(set[j]);
-        j += 1;
-        if i == m {
-            continue;
-        }
-        if ground_rects::intersects(footprint, set_places::footprint_at(edges, m)) {
-            return true;
-        }
-    }
-    false
+    let footprint = places.footprint(i);
+    set.iter()
+        .map(|&m| m as usize)
+        .any(|m| m != i && ground_rects::intersects(footprint, places.footprint(m)))
 }
 
 // Whether the footprints of two members overlap.
-pub fn overlaps(edges: &[i32], set: &[u16]) -> bool
-    requires { Named edges.now set.now }
-    ensures { result ≡ any_of (clashing edges.now set.now) set.now }
+#[tactic(auto, using(crate::proofs::Looking::any_clashes))]
+pub fn overlaps(places: &FlatPlaces<'_>, set: &[u16]) -> bool
+    requires { Named places.now.edges.now set.now }
+    ensures { result ≡ any_of (clashing places.now.edges.now set.now) set.now }
 {
-    let mut j = 0;
-    while j < set.len() {
-        if clashes(edges, set, member(set[j])) {
-            return true;
-        }
-        j += 1;
-    }
-    false
+    set.iter().any(|&m| clashes(places, set, m as usize))
 }

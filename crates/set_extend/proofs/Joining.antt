@@ -9,8 +9,7 @@ use lib.Dec.{eqb, ltb}
 use lib.IntN.{ℤ}
 use lib.ListN.{length, get_or, set, take, drop, length-append, length-set}
 use lib.Seq.{take_all, drop-cons, set_at}
-use Rattle.std.specs.Ordering.{is_lt, nat_cmp}
-use Rattle.std.proofs.lemmas.Grind.{common_steps}
+use Rattle.std.specs.Ordering.{is_lt}
 use Rattle.base_laws.specs.Lists.{any_of, select, below, member}
 use Rattle.base_laws.proofs.Members.{get_d_member}
 use Rattle.base_laws.proofs.Turns.{any_more, any_hit, filter_hit, filter_miss}
@@ -18,6 +17,7 @@ use Rattle.base_laws.proofs.Tests.{below_last}
 use Rattle.rule_layouts.specs.Boards.{Places, used, may_join}
 use Rattle.rule_layouts.specs.Flat.{places_in}
 use Rattle.set_places.specs.Groups.{of_group, taken, InRow, InGroup}
+use Rattle.set_places.proofs.Members.{fewer_is}
 use Rattle.set_extend.specs.Join.{Rowed, free_slot, ListWritten}
 
 -- ---- the members
@@ -25,12 +25,9 @@ use Rattle.set_extend.specs.Join.{Rowed, free_slot, ListWritten}
 pub in_row : {n : ℕ} {groups numbers : List ℕ} {edges : List ℤ} {s : List ℕ} → Rowed n groups numbers edges s → InRow numbers s
 in_row {s = s} r = record { whole = λ j h. omega (arith, r.fours, r.named (get_or s j 0) (get_d_member s j 0 h)) }
 
-lt_order : (a b : ℕ) → is_lt (nat_cmp a b) ≡ ltb a b
-lt_order a b = grind (arith, common_steps)
-
 pub slot_left : (n : ℕ) (groups numbers : List ℕ) (edges : List ℤ) (s : List ℕ) (i : ℕ) → is_lt (taken groups numbers s i) ≡ free_slot (places_in n groups numbers edges) s i
 unfolding free_slot places_in used of_group
-slot_left n groups numbers edges s i = lt_order _ _
+slot_left n groups numbers edges s i = fewer_is _ _
 
 -- placement i stands in the row, and is of a group that there is
 pub in_group : {n : ℕ} {groups numbers : List ℕ} {edges : List ℤ} {s : List ℕ} {i : ℕ} → Rowed n groups numbers edges s → i < n → InGroup groups numbers s i

@@ -51,7 +51,7 @@ impl FlatPlaces<'_> {
     }
 
     // How many members are of the group.
-    #[tactic(auto, using(crate::proofs::Counting::group_counted))]
+    #[tactic(auto, using(crate::proofs::Members::group_counted))]
     pub fn count_in_group(&self, set: &[u16], group: usize) -> usize
         requires { InRow self.now.numbers.now set.now }
         ensures { result ≡ of_group self.now.numbers.now group set.now }
