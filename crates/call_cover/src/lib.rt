@@ -6,7 +6,7 @@ ghost use Rattle.base_model.specs.Answers.{reply_of};
 ghost use Rattle.ground_spans.specs.Changes.{made, allows};
 ghost use Rattle.rule_covers.specs.Covers.{change_call, cover_call, lift_call};
 
-use base_model::{Answer, Bounds, PIXELS, Rect, Refusal};
+use base_model::{Bounds, PIXELS, Rect, Refusal};
 use ground_spans::Change;
 
 // Refuses 2, 4, 6, 15 and 20, and then writes nothing. Accepted, it changes the count of each centre off which the rectangle keeps the
@@ -17,34 +17,34 @@ fn change_counts(
     mover: Bounds,
     rect: Rect,
     baseline: &mut [u8],
-) -> Answer
+) -> Result<(), Refusal>
     ensures { change_call window mover rect (allows change) (made change) baseline.old
         ≡ record { answer = reply_of result; baseline = baseline.new } }
 {
     if !ground_rects::window_fits(window, PIXELS, PIXELS) {
-        return Answer::Refused(Refusal::WindowInvalid);
+        return Err(Refusal::WindowInvalid);
     }
     if !ground_rects::small(mover) {
-        return Answer::Refused(Refusal::BoundTooLarge);
+        return Err(Refusal::BoundTooLarge);
     }
     let width = ground_rects::width(window);
     if baseline.len() < width * ground_rects::height(window) {
-        return Answer::Refused(Refusal::AreaTooShort);
+        return Err(Refusal::AreaTooShort);
     }
     if !ground_rects::nonempty(rect) {
-        return Answer::Refused(Refusal::RectangleEmpty);
+        return Err(Refusal::RectangleEmpty);
     }
     let span = ground_rects::clip(rect, window, mover);
     if !ground_spans::span_allows(change, baseline, width, span) {
-        return Answer::Refused(Refusal::CountOutOfRange);
+        return Err(Refusal::CountOutOfRange);
     }
     ground_spans::change_span(change, baseline, width, span);
-    Answer::Done
+    Ok(())
 }
 
 // Covers the baseline with the rectangle: one more at exactly the centres off which it keeps the mover. Refuses 2, 4, 6, 15, and 20
 // where a count would pass 255, and then writes nothing.
-pub fn cover(window: Rect, mover: Bounds, rect: Rect, baseline: &mut [u8]) -> Answer
+pub fn cover(window: Rect, mover: Bounds, rect: Rect, baseline: &mut [u8]) -> Result<(), Refusal>
     ensures { cover_call window mover rect baseline.old
         ≡ record { answer = reply_of result; baseline = baseline.new } }
 {
@@ -53,7 +53,7 @@ pub fn cover(window: Rect, mover: Bounds, rect: Rect, baseline: &mut [u8]) -> An
 
 // Lifts the rectangle off the baseline: one less at exactly these centres. Refuses 2, 4, 6, 15, and 20 where a count would pass zero,
 // and then writes nothing.
-pub fn lift(window: Rect, mover: Bounds, rect: Rect, baseline: &mut [u8]) -> Answer
+pub fn lift(window: Rect, mover: Bounds, rect: Rect, baseline: &mut [u8]) -> Result<(), Refusal>
     ensures { lift_call window mover rect baseline.old
         ≡ record { answer = reply_of result; baseline = baseline.new } }
 {

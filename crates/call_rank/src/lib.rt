@@ -4,15 +4,16 @@
 ghost use Rattle.std.specs.Prelude.{◌≡◌, true, ◌≤◌, pos, nat_abs, ◌+ℤ◌, ◌-ℤ◌, ◌*ℤ◌};
 ghost use Rattle.rule_ranks.specs.Measures.{square, squared_length, dot, cross, segment, from_first, beside_end, measure_of};
 ghost use Rattle.ground_rects.specs.Windows.{size_fits};
-ghost use Rattle.rule_ranks.specs.Ranks.{on_map, same_point, site_fits, footprint_fits, ranking_of, rank_call};
+ghost use Rattle.rule_ranks.specs.Ranks.{on_map, site_fits, footprint_fits, ranking_of, rank_call};
 ghost use Rattle.rule_ranks.specs.Sizes.{Within, Sizes};
 ghost use Rattle.rule_ranks.specs.Orders.{is_rank, closer_rank};
 
-use base_model::{CELL, Position, RADIUS, Rank, Ranked, Rect, Refusal, Site};
+use base_model::{CELL, Position, RADIUS, Rank, Rect, Refusal, Site};
 use rule_ranks::{Measure, Vector};
 
 // ---- ways
 // z².
+#[tactic(auto, unfolding(rule_ranks::specs::Measures::square))]
 fn square(z: i64) -> u64
     requires { nat_abs z ≤ 268435456 }
     ensures { result ≡ square z }
@@ -20,6 +21,7 @@ fn square(z: i64) -> u64
     (z * z) as u64
 }
 
+#[tactic(auto, unfolding(rule_ranks::specs::Measures::squared_length))]
 fn squared_length(v: Vector) -> u64
     requires { Within 16384 v }
     ensures { result ≡ squared_length v }
@@ -27,6 +29,7 @@ fn squared_length(v: Vector) -> u64
     square(v.x) + square(v.y)
 }
 
+#[tactic(auto, unfolding(rule_ranks::specs::Measures::dot))]
 fn dot(a: Vector, b: Vector) -> i64
     requires { Within 16384 a × Within 16384 b }
     ensures { result ≡ dot a b }
@@ -34,6 +37,7 @@ fn dot(a: Vector, b: Vector) -> i64
     a.x * b.x + a.y * b.y
 }
 
+#[tactic(auto, unfolding(rule_ranks::specs::Measures::cross))]
 fn cross(a: Vector, b: Vector) -> i64
     requires { Within 16384 a × Within 16384 b }
     ensures { result ≡ cross a b }
@@ -56,6 +60,7 @@ fn way_to_middle(from: u32, low: i32, high: i32) -> i64
 }
 
 // From the entrance's first end to its second.
+#[tactic(auto, unfolding(rule_ranks::specs::Measures::segment))]
 fn segment(site: Site) -> Vector
     ensures { result ≡ segment site }
 {
@@ -66,6 +71,7 @@ fn segment(site: Site) -> Vector
 }
 
 // From the first end to the footprint's centre, doubled.
+#[tactic(auto, unfolding(rule_ranks::specs::Measures::from_first))]
 fn from_first(site: Site, footprint: Rect) -> Vector
     ensures { result ≡ from_first site footprint }
 {
@@ -88,6 +94,7 @@ fn less_twice(v: Vector, d: Vector) -> Vector
 
 // ---- the measure
 // Beside an end: v is the way from it.
+#[tactic(auto, unfolding(rule_ranks::specs::Measures::beside_end))]
 fn beside_end(radius: u32, v: Vector) -> Measure
     requires { (radius ≤ 1024) × Within 16384 v }
     ensures { result ≡ beside_end radius v }
@@ -125,100 +132,80 @@ fn measure(site: Site, footprint: Rect) -> Measure
 
 // ---- what is turned away
 // Whether the point lies on a map of so many cells, its far edges included.
+#[tactic(auto, unfolding(rule_ranks::specs::Ranks::on_map))]
 fn on_map(across: u32, down: u32, p: Position) -> bool
     requires { size_fits across down ≡ true }
     ensures { result ≡ on_map across down p }
 {
-    if p.x > CELL * across {
-        return false;
-    }
-    p.y <= CELL * down
-}
-
-fn same_point(p: Position, q: Position) -> bool
-    ensures { result ≡ same_point p q }
-{
-    if p.x != q.x {
-        return false;
-    }
-    p.y == q.y
+    p.x <= CELL * across && p.y <= CELL * down
 }
 
 // Whether the radius is not too large and the entrance's ends are two points of the map.
+#[tactic(auto, unfolding(rule_ranks::specs::Ranks::site_fits, rule_ranks::specs::Ranks::same_point))]
 fn site_fits(across: u32, down: u32, site: Site) -> bool
     requires { size_fits across down ≡ true }
     ensures { result ≡ site_fits across down site }
 {
-    if site.radius > RADIUS {
-        return false;
-    }
-    if !on_map(across, down, site.first) {
-        return false;
-    }
-    if !on_map(across, down, site.second) {
-        return false;
-    }
-    !same_point(site.first, site.second)
+    site.radius <= RADIUS
+        && on_map(across, down, site.first)
+        && on_map(across, down, site.second)
+        && site.first != site.second
 }
 
 // Whether the footprint has a pixel and lies inside the map.
+#[tactic(auto, unfolding(rule_ranks::specs::Ranks::footprint_fits))]
 fn footprint_fits(across: u32, down: u32, footprint: Rect) -> bool
     requires { size_fits across down ≡ true }
     ensures { result ≡ footprint_fits across down footprint }
 {
-    if !ground_rects::nonempty(footprint) {
-        return false;
-    }
     let map = Rect {
         left: 0,
         top: 0,
         right: (CELL * across) as i32,
         bottom: (CELL * down) as i32,
     };
-    ground_rects::holds(map, footprint)
+    ground_rects::nonempty(footprint) && ground_rects::holds(map, footprint)
 }
 
 // ---- the calls
 // Ranks a placement by the distance of its footprint's centre from the entrance. Refuses 1, 22 and 15; beyond the radius there is no
 // rank.
-pub fn rank(across: u32, down: u32, site: Site, footprint: Rect) -> Ranked
+pub fn rank(across: u32, down: u32, site: Site, footprint: Rect) -> Result<Option<Rank>, Refusal>
     ensures { rank_call across down site footprint ≡ ranking_of result }
 {
     if !ground_rects::size_fits(across, down) {
-        return Ranked::Refused(Refusal::MapInvalid);
+        return Err(Refusal::MapInvalid);
     }
     if !site_fits(across, down, site) {
-        return Ranked::Refused(Refusal::SiteInvalid);
+        return Err(Refusal::SiteInvalid);
     }
     if !footprint_fits(across, down, footprint) {
-        return Ranked::Refused(Refusal::FootprintInvalid);
+        return Err(Refusal::FootprintInvalid);
     }
     let m = measure(site, footprint);
     if m.numerator > m.limit {
-        return Ranked::Beyond;
+        return Ok(None);
     }
-    let rank = Rank {
+    Ok(Some(Rank {
         quotient: m.numerator / m.divisor,
         remainder: m.numerator % m.divisor,
         divisor: m.divisor,
-    };
-    Ranked::Rank(rank)
+    }))
 }
 
 // The largest divisor: 4 times the squared length of the largest map's diagonal.
 const MOST_PARTS: u64 = 536870912;
 
 // Whether the numbers are a rank's.
+#[tactic(auto, unfolding(rule_ranks::specs::Orders::is_rank))]
 fn is_rank(k: Rank) -> bool
     ensures { result ≡ is_rank k }
 {
-    if k.remainder >= k.divisor {
-        return false;
-    }
-    k.divisor <= MOST_PARTS
+    k.remainder < k.divisor && k.divisor <= MOST_PARTS
 }
 
 // Whether the first rank is closer than the second. What is no rank counts as farther than every rank.
+#[tactic(auto, unfolding(rule_ranks::specs::Orders::closer_rank, rule_ranks::specs::Orders::lower, rule_ranks::specs::Orders::is_rank))]
 pub fn closer(a: Rank, b: Rank) -> bool
     ensures { result ≡ closer_rank a b }
 {

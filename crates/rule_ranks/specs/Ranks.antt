@@ -1,13 +1,12 @@
 -- The call `rank`: what it turns away, and the rank that it gives (RULES 15.1, 15.4, 15.5, 15.6).
-use Rattle.std.specs.Prelude.{ℕ, ◌+◌, ◌*◌, ◌/◌, ◌%◌, ◌<◌, ◌≡◌, Bool, not, cond, ◌&&◌, List, [], ◌∷◌, leb, eqb, pos}
+use Rattle.std.specs.Prelude.{ℕ, ◌+◌, ◌*◌, ◌/◌, ◌%◌, ◌<◌, ◌≡◌, Bool, not, cond, ◌&&◌, List, [], ◌∷◌, leb, eqb, pos, Option as Optional, Some, None, Result, Ok, Err}
 use Rattle.std.proofs.Math.Option.{Option, none, some}
 use Rattle.base_model.specs.Answers.{Said, ask, first, said_of}
 use Rattle.base_model.specs.declared.Rect.{Rect}
+use Rattle.base_model.specs.declared.Refusal.{Refusal}
 use Rattle.base_model.specs.declared.Position.{Position}
 use Rattle.base_model.specs.declared.Site.{Site}
 use Rattle.base_model.specs.declared.Rank.{Rank}
-use Rattle.base_model.specs.declared.Ranked.{Ranked}
-use Rattle.base_model.specs.declared.Ranked.TheVariants.{Rank as ARank, Beyond as NoRank, Refused as ARefusal}
 use Rattle.ground_rects.specs.Rects.{rect, nonempty, holds}
 use Rattle.ground_rects.specs.Windows.{size_fits}
 use Rattle.rule_ranks.specs.declared.Measure.{Measure}
@@ -41,10 +40,10 @@ pub data Ranking : Type 0 where
   ranks : Rank → Ranking
 
 -- for each answer of the code
-unfoldable pub ranking_of : Ranked → Ranking
-ranking_of (ARank k) = ranks k
-ranking_of NoRank = beyond
-ranking_of (ARefusal r) = refuses (said_of r)
+unfoldable pub ranking_of : Result (Optional Rank) Refusal → Ranking
+ranking_of (Ok (Some k)) = ranks k
+ranking_of (Ok None) = beyond
+ranking_of (Err r) = refuses (said_of r)
 
 -- the fraction as a whole number and a rest
 unfoldable pub rank_of : Measure → Rank

@@ -1,16 +1,8 @@
 -- `call_rank::cross` meets its contract: no product and no difference leaves 64 bits.
 use native.Mathlib.Omega.{arith}
 use Rattle.rule_ranks.specs.Measures.{cross}
-use Rattle.call_rank.proofs.Words.{product_fits, difference_fits, difference_read}
+use Rattle.call_rank.proofs.Words.{difference_fits, difference_read}
 use Rattle.call_rank.proofs.cross.Goals as goal
-
-pub overflow_mul-result : goal.overflow_mul-result
-overflow_mul-result c =
-    product_fits c.args.a.x c.args.b.y (omega (arith, c.requires.0.x)) (omega (arith, c.requires.1.y))
-
-pub overflow_mul-result-2 : goal.overflow_mul-result-2
-overflow_mul-result-2 c =
-    product_fits c.args.a.y c.args.b.x (omega (arith, c.requires.0.y)) (omega (arith, c.requires.1.x))
 
 pub overflow_sub-result : goal.overflow_sub-result
 overflow_sub-result c =

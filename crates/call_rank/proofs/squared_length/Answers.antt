@@ -1,9 +1,9 @@
 -- `call_rank::squared_length` meets its contract: both squares are at most 2^28.
-use mathlib.Core.Path.{◌≡◌, ap, ap₂, ◌∙◌}
-use Prim.Native.Nat.{◌+◌, ◌≤◌}
+use mathlib.Core.Path.{◌≡◌, ap, ◌∙◌}
+use Prim.Native.Nat.{◌≤◌}
 use native.Mathlib.Omega.{arith}
 use lib.IntN.{ℤ, nat_abs}
-use Rattle.rule_ranks.specs.Measures.{square, squared_length}
+use Rattle.rule_ranks.specs.Measures.{square}
 use Rattle.rule_ranks.proofs.Sizes.{square_le}
 use Rattle.call_rank.proofs.Words.{word, read}
 use Rattle.call_rank.proofs.squared_length.Goals as goal
@@ -11,12 +11,6 @@ use Rattle.call_rank.proofs.squared_length.Goals as goal
 -- an axis is read back as it was given, and is short
 short : (z : ℤ) → nat_abs z ≤ 16384 → word z ≡ z
 short z h = read z (omega arith)
-
-pub square-requires : goal.square-requires
-square-requires c = rw (short c.args.v.x c.requires.x) (omega (arith, c.requires.x))
-
-pub square-requires-2 : goal.square-requires-2
-square-requires-2 c = rw (short c.args.v.y c.requires.y) (omega (arith, c.requires.y))
 
 pub overflow_add-result : goal.overflow_add-result
 overflow_add-result c =
@@ -29,7 +23,3 @@ overflow_add-result c =
         square_le c.args.v.y 16384 c.requires.y,
       );
     }
-
-pub returns : goal.returns
-unfolding squared_length
-returns c = ap₂ ◌+◌ (c.square.ensures ∙ ap square (short c.args.v.x c.requires.x)) (c.square-2.ensures ∙ ap square (short c.args.v.y c.requires.y))
