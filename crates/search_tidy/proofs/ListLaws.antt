@@ -5,7 +5,8 @@ use mathlib.Core.List.{List, map, reverse}
 use native.Mathlib.Omega.{arith}
 use native.Mathlib.Numerals.{add-one}
 use native.Mathlib.Nat.{suc-mul, mul-le-mul_right}
-use lib.ListN.{length, get_or}
+use lib.ListN.{length, get_or, take}
+use lib.Seq.{get_or-take}
 use Rattle.base_laws.specs.Lists.{flat, padded}
 use Rattle.base_laws.specs.Fill.{zeros, over}
 use Rattle.base_laws.proofs.Stores.{length_zeros, length_over}
@@ -31,19 +32,17 @@ pub record Place (k n : ℕ) (a : List ℕ) : Type 0 where
   pub low : k < 6
 
 module _ (a₀ : List ℕ) (n m : ℕ) (ls : List ℕ) (k : ℕ) (a : List ℕ) (p : ListsIn a₀ ls m n) (c : Swept a₀ n m ls k a) where
-  pub swept_place : k < m → Place k n a
+  swept_place : k < m → Place k n a
   swept_place h =
       let d = p.deep in let w = p.long in let s = p.small in let t = c.kept in
       let y = suc-mul k n in
       let g : suc k * n ≤ 6 * n = mul-le-mul_right n (let u : suc k ≤ 6 = omega arith in u) in
       record { inside = omega arith; small = omega arith; low = omega arith }
 
-  pub swept_fits : k < m → get_or ls k 0 ≤ n
-  swept_fits h = p.fits k h
-
-  pub swept_next : k < m → (b : List ℕ) → b ≡ over a (k * n + get_or ls k 0) (zeros (n - get_or ls k 0)) → Swept a₀ n m ls (k + 1) b
+  pub swept_next : k < m → (b : List ℕ) → b ≡ over a (k * n + get_or (take m ls) k 0) (zeros (n - get_or (take m ls) k 0)) → Swept a₀ n m ls (k + 1) b
   unfolding clear_lists
-  swept_next h b e =
+  swept_next h b t =
+      let e : b ≡ over a (k * n + get_or ls k 0) (zeros (n - get_or ls k 0)) = t ∙ ap (λ (u : ℕ). over a (k * n + u) (zeros (n - u))) (get_or-take m ls k 0 h) in
       let q = swept_place h in
       let f = p.fits k h in
       let z = length_zeros (n - get_or ls k 0) in
@@ -54,23 +53,6 @@ module _ (a₀ : List ℕ) (n m : ℕ) (ls : List ℕ) (k : ℕ) (a : List ℕ) 
         kept = ap length e ∙ length_over a (k * n + get_or ls k 0) (zeros (n - get_or ls k 0)) (let i = q.inside in omega arith) ∙ c.kept;
         within = omega arith;
       }
-
-  pub record Last : Type 0 where
-    pub below : m * n ≤ 6 * n
-    pub inside : 6 * n ≤ length a
-    pub small : 6 * n ≤ 36864
-
-  pub swept_last : Last
-  swept_last =
-      let g : m * n ≤ 6 * n = mul-le-mul_right n p.deep in
-      let w = p.long in let s = p.small in let t = c.kept in
-      record { below = g; inside = omega arith; small = omega arith }
-
-  pub swept_length : (b : List ℕ) → b ≡ over a (m * n) (zeros (6 * n - m * n)) → length b ≡ length a₀
-  swept_length b e =
-      let q = swept_last in
-      let z = length_zeros (6 * n - m * n) in
-      ap length e ∙ length_over a (m * n) (zeros (6 * n - m * n)) (let x = q.below in let y = q.inside in omega arith) ∙ c.kept
 
 -- at the end, with the record
 pub swept_end : (a₀ : List ℕ) (r : Record) (k : ℕ) (a : List ℕ) → ListsIn a₀ r.lengths r.lists r.placements → Swept a₀ r.placements r.lists r.lengths k a

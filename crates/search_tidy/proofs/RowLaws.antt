@@ -70,8 +70,3 @@ module _ (a₀ : List ℕ) (count n k : ℕ) (a : List ℕ) (p : RowsIn a₀ cou
       let x : k ≡ count = omega arith in
       e ∙ ap (λ (q : List ℕ). over q (count * 7) (zeros (n - count * 7))) (c.so ∙ ap (clear_rows a₀) x)
       ∙ rows_cleared a₀ count n p.six p.room p.long
-
-  pub cleared_length : (b : List ℕ) → b ≡ over a (count * 7) (zeros (n - count * 7)) → length b ≡ length a₀
-  cleared_length b e =
-      let z = length_zeros (n - count * 7) in let r = p.room in let w = p.long in let t = c.kept in
-      ap length e ∙ length_over a (count * 7) (zeros (n - count * 7)) (omega arith) ∙ c.kept

@@ -44,17 +44,17 @@ pub record Sized (r : Record) : Type 0 where
   pub nexts : length r.nexts ≡ 6
 
 -- what 16 and the checks before it tell of the parts that are used
-pub record PartsUsed (q : Query) (l : Limits) (r : Record) (lists visited layouts points : List ℕ) : Type 0 where
+pub record PartsUsed (q : Query) (l : Limits) (r : Record) (a : Store) : Type 0 where
   pub window : window_fits 8192 8192 q.window ≡ true
   pub states : l.states ≤ 100000
   pub results : l.results ≤ 32
-  pub lists_in : ListsIn lists r.lengths r.lists r.placements
-  pub visited_in : RowsIn visited r.evaluations (7 * l.states)
-  pub layouts_in : RowsIn layouts r.layouts (7 * l.results)
+  pub lists_in : ListsIn a.lists r.lengths r.lists r.placements
+  pub visited_in : RowsIn a.visited r.evaluations (7 * l.states)
+  pub layouts_in : RowsIn a.layouts r.layouts (7 * l.results)
   pub shown : r.layouts ≤ 32
   pub kept : total (take r.layouts r.routes) ≤ 1000000
   pub points_in : 2 * total (take r.layouts r.routes) ≤ points_room q l
-  pub points_long : points_room q l ≤ length points
+  pub points_long : points_room q l ≤ length a.points
 
 -- inputs with which 16 lets the record and the areas pass
 pub record Passing (i : Inputs) (q : Query) (l : Limits) (r : Record) (a : Store) : Type 0 where
