@@ -9,7 +9,7 @@ ghost use Rattle.text_forms.specs.Writing.{Put};
 ghost use Rattle.sheet_texts.specs.Texts.{refusal_text, result_text};
 ghost use Rattle.sheet_texts.specs.Parts.{enough, head_text, row_text, Writable};
 
-use base_model::{EXHAUSTED, ROW, Record, Refusal, STATE_LIMIT};
+use base_model::{EXHAUSTED, RESULT_LIMIT, ROW, Record, Refusal, STATE_LIMIT};
 
 // How many bytes hold any result.
 pub const ENOUGH: usize = 262144;
@@ -19,8 +19,7 @@ pub fn write_refused(out: &mut [u8], n: u32) -> usize
     requires { 64 ≤ length out.old }
     ensures { Put (refusal_text (refusal n)) out.old 0 out.new result }
 {
-    let values = [n];
-    sheet_put::put(out, 0, b"(refused $)\n", &values)
+    sheet_put::put(out, 0, b"(refused $)\n", &[n])
 }
 
 // Writes a refusal of a call.
@@ -28,10 +27,11 @@ pub fn write_refusal(out: &mut [u8], r: Refusal) -> usize
     requires { 64 ≤ length out.old }
     ensures { Put (refusal_text (said_of r)) out.old 0 out.new result }
 {
-    write_refused(out, base_model::refusal_number(r))
+    write_refused(out, u32::from(r))
 }
 
 // Writes the lines of the layouts.
+#[tactic(auto, using(sheet_texts::proofs::Lengths::here))]
 fn put_layouts(
     out: &mut [u8],
     at: usize,
@@ -47,15 +47,13 @@ fn put_layouts(
 {
     let mut i = at;
     let mut from = 0;
-    let mut k = 0;
-    while k < count {
+    for k in 0..count {
         let n = routes[k] as usize;
         let to = from + 2 * n;
         let row = ROW * k + 1;
         let end = row + layouts[ROW * k] as usize;
         i = sheet_put::put_layout(out, i, k as u32, &layouts[row..end], n, &points[from..to]);
         from = to;
-        k = k + 1;
     }
     i
 }
@@ -66,16 +64,12 @@ fn put_head(out: &mut [u8], reason: u32, evaluations: u32, placements: u32, layo
     ensures { Put (head_text reason evaluations placements layouts) out.old 0 out.new result }
 {
     let values = [evaluations, placements, layouts];
-    if reason == EXHAUSTED {
-        return sheet_put::put(out, 0, b"(result Exhausted $ $ $)\n", &values);
+    match reason {
+        EXHAUSTED => sheet_put::put(out, 0, b"(result Exhausted $ $ $)\n", &values),
+        STATE_LIMIT => sheet_put::put(out, 0, b"(result StateLimit $ $ $)\n", &values),
+        RESULT_LIMIT.. => sheet_put::put(out, 0, b"(result ResultLimit $ $ $)\n", &values),
+        _ => sheet_put::put(out, 0, b"(result Running $ $ $)\n", &values),
     }
-    if reason == STATE_LIMIT {
-        return sheet_put::put(out, 0, b"(result StateLimit $ $ $)\n", &values);
-    }
-    if STATE_LIMIT < reason {
-        return sheet_put::put(out, 0, b"(result ResultLimit $ $ $)\n", &values);
-    }
-    sheet_put::put(out, 0, b"(result Running $ $ $)\n", &values)
 }
 
 // Writes a result.
@@ -94,6 +88,5 @@ pub fn write_result(out: &mut [u8], rec: Record, layouts: &[u16], points: &[u32]
         rec.placements,
         rec.layouts,
     );
-    let routes = rec.routes;
-    put_layouts(out, at, rec.layouts as usize, routes, layouts, points)
+    put_layouts(out, at, rec.layouts as usize, rec.routes, layouts, points)
 }

@@ -1,5 +1,4 @@
 -- `put_head`: the line of the reason.
-use mathlib.Core.Path.{refl}
 use native.Mathlib.Omega.{arith}
 use lib.ListN.{length}
 use Rattle.text_forms.proofs.Puts.{put_same}
@@ -7,50 +6,26 @@ use Rattle.sheet_put.proofs.Left.{room_as}
 use Rattle.sheet_texts.proofs.Texts.{head_exhausted, head_states, head_results, head_running}
 use Rattle.sheet_write.proofs.put_head.Goals as goal
 
-pub put-requires : goal.put-requires
-put-requires c =
-    let e = head_exhausted c.args.reason c.args.evaluations c.args.placements c.args.layouts c.if-reason-eq-EXHAUSTED.true in
-    record {
-      fact = (omega arith, (omega arith, (omega arith, refl)));
-      values_in_bounds =
-          room_as _ _ 0 (length c.args.out.now) e (omega arith);
-    }
+pub put-requires-clause-values_in_bounds : goal.put-requires-clause-values_in_bounds
+put-requires-clause-values_in_bounds c = room_as _ _ 0 (length c.args.out.now) (head_exhausted c.args.reason _ _ _ (omega arith)) (omega arith)
 
-pub returns-then-reason-eq-EXHAUSTED : goal.returns-then-reason-eq-EXHAUSTED
-returns-then-reason-eq-EXHAUSTED c =
-    let e = head_exhausted c.args.reason c.args.evaluations c.args.placements c.args.layouts c.if-reason-eq-EXHAUSTED.true in
-    put_same _ _ _ _ _ _ e c.put.ensures
+pub returns-in-2 : goal.returns-in-2
+returns-in-2 c = put_same _ _ _ _ _ _ (head_exhausted c.args.reason _ _ _ (omega arith)) c.put.ensures
 
-pub put-requires-then-reason-eq-STATE_LIMIT : goal.put-requires-then-reason-eq-STATE_LIMIT
-put-requires-then-reason-eq-STATE_LIMIT c =
-    let e = head_states c.args.reason c.args.evaluations c.args.placements c.args.layouts c.if-reason-eq-STATE_LIMIT.true in
-    record { fact = (omega arith, (omega arith, (omega arith, refl))); values_in_bounds = room_as _ _ 0 (length c.args.out.now) e (omega arith) }
+pub put-requires-in-3-clause-values_in_bounds : goal.put-requires-in-3-clause-values_in_bounds
+put-requires-in-3-clause-values_in_bounds c = room_as _ _ 0 (length c.args.out.now) (head_states c.args.reason _ _ _ (omega arith)) (omega arith)
 
-pub returns-then-reason-eq-STATE_LIMIT : goal.returns-then-reason-eq-STATE_LIMIT
-returns-then-reason-eq-STATE_LIMIT c =
-    let e = head_states c.args.reason c.args.evaluations c.args.placements c.args.layouts c.if-reason-eq-STATE_LIMIT.true in
-    put_same _ _ _ _ _ _ e c.put-then-reason-eq-STATE_LIMIT.ensures
+pub returns-in-3 : goal.returns-in-3
+returns-in-3 c = put_same _ _ _ _ _ _ (head_states c.args.reason _ _ _ (omega arith)) c.put-in-3.ensures
 
-pub put-requires-then-reason-gt-STATE_LIMIT : goal.put-requires-then-reason-gt-STATE_LIMIT
-put-requires-then-reason-gt-STATE_LIMIT c =
-    let e = head_results c.args.reason c.args.evaluations c.args.placements c.args.layouts (omega arith) in
-    record { fact = (omega arith, (omega arith, (omega arith, refl))); values_in_bounds = room_as _ _ 0 (length c.args.out.now) e (omega arith) }
+pub put-requires-in-4-to-4294967295-clause-values_in_bounds : goal.put-requires-in-4-to-4294967295-clause-values_in_bounds
+put-requires-in-4-to-4294967295-clause-values_in_bounds c = room_as _ _ 0 (length c.args.out.now) (head_results c.args.reason _ _ _ (omega arith)) (omega arith)
 
-pub returns-then-reason-gt-STATE_LIMIT : goal.returns-then-reason-gt-STATE_LIMIT
-returns-then-reason-gt-STATE_LIMIT c =
-    let e = head_results c.args.reason c.args.evaluations c.args.placements c.args.layouts (omega arith) in
-    put_same _ _ _ _ _ _ e c.put-then-reason-gt-STATE_LIMIT.ensures
+pub returns-in-4-to-4294967295 : goal.returns-in-4-to-4294967295
+returns-in-4-to-4294967295 c = put_same _ _ _ _ _ _ (head_results c.args.reason _ _ _ (omega arith)) c.put-in-4-to-4294967295.ensures
 
-pub put-requires-2 : goal.put-requires-2
-put-requires-2 c =
-    let e = head_running c.args.reason c.args.evaluations c.args.placements c.args.layouts (omega arith) in
-    record {
-      fact = (omega arith, (omega arith, (omega arith, refl)));
-      values_in_bounds =
-          room_as _ _ 0 (length c.args.out.now) e (omega arith);
-    }
+pub put-requires-in_default-clause-values_in_bounds : goal.put-requires-in_default-clause-values_in_bounds
+put-requires-in_default-clause-values_in_bounds c = room_as _ _ 0 (length c.args.out.now) (head_running c.args.reason _ _ _ (omega arith)) (omega arith)
 
-pub returns : goal.returns
-returns c =
-    let e = head_running c.args.reason c.args.evaluations c.args.placements c.args.layouts (omega arith) in
-    put_same _ _ _ _ _ _ e c.put-2.ensures
+pub returns-in_default : goal.returns-in_default
+returns-in_default c = put_same _ _ _ _ _ _ (head_running c.args.reason _ _ _ (omega arith)) c.put-in_default.ensures

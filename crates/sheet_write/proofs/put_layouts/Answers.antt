@@ -15,98 +15,8 @@ unfolding total
 loop-k-init c =
     (turns_start _ (row_text c.args.routes c.args.layouts.now c.args.points.now) c.args.count c.args.out.now c.args.at refl c.requires.count_in_bounds, refl)
 
-pub offset_bounds-routes-k : goal.offset_bounds-routes-k
-offset_bounds-routes-k c =
-    let h = here c.args.count c.args.routes c.args.layouts.now c.args.points.now c.requires.writable c.loop-k.k (omega arith) c.loop-k.from c.loop-k.invariant.1 in
-    omega arith
-
-pub bounds-routes-k : goal.bounds-routes-k
-bounds-routes-k c =
-    let h = here c.args.count c.args.routes c.args.layouts.now c.args.points.now c.requires.writable c.loop-k.k (omega arith) c.loop-k.from c.loop-k.invariant.1 in
-    omega arith
-
-pub overflow_mul-to : goal.overflow_mul-to
-overflow_mul-to c =
-    let h = here c.args.count c.args.routes c.args.layouts.now c.args.points.now c.requires.writable c.loop-k.k (omega arith) c.loop-k.from c.loop-k.invariant.1 in
-    omega arith
-
 pub overflow_add-to : goal.overflow_add-to
 overflow_add-to c =
-    let h = here c.args.count c.args.routes c.args.layouts.now c.args.points.now c.requires.writable c.loop-k.k (omega arith) c.loop-k.from c.loop-k.invariant.1 in
-    omega arith
-
-pub overflow_mul-row : goal.overflow_mul-row
-overflow_mul-row c =
-    let h = here c.args.count c.args.routes c.args.layouts.now c.args.points.now c.requires.writable c.loop-k.k (omega arith) c.loop-k.from c.loop-k.invariant.1 in
-    omega arith
-
-pub overflow_add-row : goal.overflow_add-row
-overflow_add-row c =
-    let h = here c.args.count c.args.routes c.args.layouts.now c.args.points.now c.requires.writable c.loop-k.k (omega arith) c.loop-k.from c.loop-k.invariant.1 in
-    omega arith
-
-pub overflow_mul-end : goal.overflow_mul-end
-overflow_mul-end c =
-    let h = here c.args.count c.args.routes c.args.layouts.now c.args.points.now c.requires.writable c.loop-k.k (omega arith) c.loop-k.from c.loop-k.invariant.1 in
-    omega arith
-
-pub offset_bounds-layouts-k : goal.offset_bounds-layouts-k
-offset_bounds-layouts-k c =
-    let h = here c.args.count c.args.routes c.args.layouts.now c.args.points.now c.requires.writable c.loop-k.k (omega arith) c.loop-k.from c.loop-k.invariant.1 in
-    omega arith
-
-pub bounds-layouts-k : goal.bounds-layouts-k
-bounds-layouts-k c =
-    let h = here c.args.count c.args.routes c.args.layouts.now c.args.points.now c.requires.writable c.loop-k.k (omega arith) c.loop-k.from c.loop-k.invariant.1 in
-    omega arith
-
-pub overflow_add-end : goal.overflow_add-end
-overflow_add-end c =
-    let h = here c.args.count c.args.routes c.args.layouts.now c.args.points.now c.requires.writable c.loop-k.k (omega arith) c.loop-k.from c.loop-k.invariant.1 in
-    omega arith
-
-pub overflow_cast-k : goal.overflow_cast-k
-overflow_cast-k c =
-    let h = here c.args.count c.args.routes c.args.layouts.now c.args.points.now c.requires.writable c.loop-k.k (omega arith) c.loop-k.from c.loop-k.invariant.1 in
-    omega arith
-
-pub offset_bounds-layouts-row : goal.offset_bounds-layouts-row
-offset_bounds-layouts-row c =
-    let h = here c.args.count c.args.routes c.args.layouts.now c.args.points.now c.requires.writable c.loop-k.k (omega arith) c.loop-k.from c.loop-k.invariant.1 in
-    omega arith
-
-pub slice_bounds-put_layout-count : goal.slice_bounds-put_layout-count
-slice_bounds-put_layout-count c =
-    let h = here c.args.count c.args.routes c.args.layouts.now c.args.points.now c.requires.writable c.loop-k.k (omega arith) c.loop-k.from c.loop-k.invariant.1 in
-    omega arith
-
-pub slice_bounds-put_layout-start : goal.slice_bounds-put_layout-start
-slice_bounds-put_layout-start c =
-    let h = here c.args.count c.args.routes c.args.layouts.now c.args.points.now c.requires.writable c.loop-k.k (omega arith) c.loop-k.from c.loop-k.invariant.1 in
-    omega arith
-
-pub slice_bounds-put_layout-end : goal.slice_bounds-put_layout-end
-slice_bounds-put_layout-end c =
-    let h = here c.args.count c.args.routes c.args.layouts.now c.args.points.now c.requires.writable c.loop-k.k (omega arith) c.loop-k.from c.loop-k.invariant.1 in
-    omega arith
-
-pub offset_bounds-points-from : goal.offset_bounds-points-from
-offset_bounds-points-from c =
-    let h = here c.args.count c.args.routes c.args.layouts.now c.args.points.now c.requires.writable c.loop-k.k (omega arith) c.loop-k.from c.loop-k.invariant.1 in
-    omega arith
-
-pub slice_bounds-put_layout-count-in-loop-k : goal.slice_bounds-put_layout-count-in-loop-k
-slice_bounds-put_layout-count-in-loop-k c =
-    let h = here c.args.count c.args.routes c.args.layouts.now c.args.points.now c.requires.writable c.loop-k.k (omega arith) c.loop-k.from c.loop-k.invariant.1 in
-    omega arith
-
-pub slice_bounds-put_layout-start-in-loop-k : goal.slice_bounds-put_layout-start-in-loop-k
-slice_bounds-put_layout-start-in-loop-k c =
-    let h = here c.args.count c.args.routes c.args.layouts.now c.args.points.now c.requires.writable c.loop-k.k (omega arith) c.loop-k.from c.loop-k.invariant.1 in
-    omega arith
-
-pub slice_bounds-put_layout-end-in-loop-k : goal.slice_bounds-put_layout-end-in-loop-k
-slice_bounds-put_layout-end-in-loop-k c =
     let h = here c.args.count c.args.routes c.args.layouts.now c.args.points.now c.requires.writable c.loop-k.k (omega arith) c.loop-k.from c.loop-k.invariant.1 in
     omega arith
 
@@ -117,11 +27,6 @@ put_layout-i-requires c =
           (omega arith) c.loop-k.from c.loop-k.invariant.1;
       route_in_bounds = room_as _ _ c.loop-k.i (length c.loop-k.out) t (turns_room _ _ _ _ _ _ _ _ c.loop-k.invariant.0 (omega arith));
     }
-
-pub overflow_add-k : goal.overflow_add-k
-overflow_add-k c =
-    let h = here c.args.count c.args.routes c.args.layouts.now c.args.points.now c.requires.writable c.loop-k.k (omega arith) c.loop-k.from c.loop-k.invariant.1 in
-    omega arith
 
 pub loop-k-preserved : goal.loop-k-preserved
 loop-k-preserved c =

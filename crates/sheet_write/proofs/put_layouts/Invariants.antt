@@ -1,5 +1,5 @@
--- `put_layouts`: the first k lines are written, and `from` is where the next route begins. The measure is how many are left.
-use Prim.Native.Nat.{◌*◌, ◌-◌}
+-- `put_layouts`: the first k lines are written, and `from` is where the next route begins.
+use Prim.Native.Nat.{◌*◌}
 use mathlib.Core.Path.{◌≡◌}
 use mathlib.Core.List.{map}
 use lib.ListN.{take}
@@ -12,6 +12,3 @@ abbrev pub invariant-loop-k : goal.invariant-loop-k
 invariant-loop-k l =
     Reached (flat (map (row_text l.routes l.layouts l.points) (below l.count))) (row_text l.routes l.layouts l.points) l.count l.initial.out l.at l.out l.i l.k
     × (l.from ≡ 2 * total (take l.k l.routes))
-
-abbrev pub decreases-loop-k : goal.decreases-loop-k
-decreases-loop-k l = l.count - l.k

@@ -4,4 +4,4 @@ use Rattle.sheet_texts.proofs.Texts.{refusal_text_lem}
 use Rattle.sheet_write.proofs.write_refusal.Goals as goal
 
 pub returns : goal.returns
-returns c = put_same _ _ _ _ _ _ (refusal_text_lem _ _ c.refusal_number.ensures) c.write_refused.ensures
+returns c = put_same _ _ _ _ _ _ (refusal_text_lem _ _ c.from.ensures) c.write_refused.ensures
