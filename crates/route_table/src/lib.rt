@@ -22,33 +22,15 @@ pub fn original_steps() -> [i32; 16]
 fn times_in(steps: &[i32], x: i32, y: i32) -> usize
     ensures { result ≡ length (select (same_step (step_by x y)) (steps_of steps.now)) }
 {
-    let mut n = 0;
-    let mut k = 0;
-    while k + 1 < steps.len() {
-        if steps[k] == x {
-            if steps[k + 1] == y {
-                n += 1;
-            }
-        }
-        k += 2;
-    }
-    n
+    let (pairs, _) = steps.as_chunks::<2>();
+    pairs.iter().filter(|&&pair| pair == [x, y]).count()
 }
 
 // Whether the row is a table: sixteen numbers, and each of the eight steps stands in it exactly once.
 pub fn table_fits(steps: &[i32]) -> bool
     ensures { result ≡ table_fits steps.now }
 {
-    if steps.len() != TABLE_LENGTH {
-        return false;
-    }
-    let each = original_steps();
-    let mut k = 0;
-    while k + 1 < TABLE_LENGTH {
-        if times_in(steps, each[k], each[k + 1]) != 1 {
-            return false;
-        }
-        k += 2;
-    }
-    true
+    let order = original_steps();
+    let (each, _) = order.as_chunks::<2>();
+    steps.len() == TABLE_LENGTH && each.iter().all(|&[x, y]| times_in(steps, x, y) == 1)
 }

@@ -1,33 +1,26 @@
--- The answers to the goals of `route_table::table_fits`.
-use Prim.Native.Nat.{◌+◌}
-use native.Mathlib.Omega.{arith}
-use lib.IntN.{pos}
-use lib.ListN.{get_or}
-use mir.Syntax.{w32}
-use Rattle.base_laws.proofs.Ints.{back}
-use Rattle.route_table.proofs.Counting.{checked_begin, checked_next, checked_wrong, checked_last, fits_long}
-use Rattle.std.proofs.Common.{rules}
+-- `route_table::table_fits` meets its contract: what `all` answers of the pairs of the original order is what the definition asks of the eight steps.
+use mathlib.Core.Path.{sym, ap, ◌∙◌, ◌≡◌}
+use mathlib.Core.Bool.{true, false}
+use borrow.Author.Tests.{ne_eqb}
+use Prim.Native.Nat.{◌/◌}
+use lib.IntN.{ℤ}
+use lib.ListN.{length}
+use mathlib.Core.List.{List, []}
+use Rattle.std.specs.List.{list_all}
+use Rattle.std.specs.Simd.{first_chunks}
+use Rattle.std.proofs.Common.{rules, tests}
+use Rattle.std.proofs.lemmas.Iterator.{cases_from_all, YieldsList-from_slice}
+use Rattle.route_table.proofs.Counting.{once, all_is, fits_long, fits_once}
 use Rattle.route_table.proofs.table_fits.Goals as goal
 
-pub returns-then-steps-ne-TABLE_LENGTH : goal.returns-then-steps-ne-TABLE_LENGTH
-returns-then-steps-ne-TABLE_LENGTH c = fits_long _ (λ e. omega (arith, c.if-steps-ne-TABLE_LENGTH.true))
+pub returns-then-steps-eq-TABLE_LENGTH : goal.returns-then-steps-eq-TABLE_LENGTH
+unfolding once
+returns-then-steps-eq-TABLE_LENGTH c =
+    all_is (once c.args.steps.now) [] _ _
+    (cases_from_all _ _ _ (λ x. once c.args.steps.now x ≡ true) (λ x. once c.args.steps.now x ≡ false) c.all.ensures.ran
+    (YieldsList-from_slice c.as_chunks.result.0.now cc) (λ x q k. search (rules, tests)) (λ x q k. search (rules, tests)))
+    ∙ ap (list_all (once c.args.steps.now)) (c.as_chunks.ensures.front ∙ ap (λ (l : List ℤ). first_chunks 2 (length l / 2) l) c.original_steps-order.ensures)
+    ∙ sym (fits_once c.args.steps.now c.if-steps-eq-TABLE_LENGTH.true)
 
-pub loop-k-init : goal.loop-k-init
-loop-k-init c = checked_begin _
-
-pub returns-then-times_in-ne1 : goal.returns-then-times_in-ne1
-returns-then-times_in-ne1 c =
-    let order = c.original_steps-each.result in
-    let counted = rw (back w32 (get_or order c.loop-k.k (pos 0)) (search rules), back w32 (get_or order (c.loop-k.k + 1) (pos 0)) (search rules)) at c.times_in.ensures in
-    checked_wrong _ _ c.loop-k.invariant c.if-steps-ne-TABLE_LENGTH.false c.loop-k-test.true _ c.original_steps-each.ensures _
-    counted (λ e. omega (arith, c.if-times_in-ne1.true))
-
-pub loop-k-preserved : goal.loop-k-preserved
-loop-k-preserved c =
-    let order = c.original_steps-each.result in
-    let counted = rw (back w32 (get_or order c.loop-k.k (pos 0)) (search rules), back w32 (get_or order (c.loop-k.k + 1) (pos 0)) (search rules)) at c.times_in.ensures in
-    checked_next _ _ c.loop-k.invariant c.if-steps-ne-TABLE_LENGTH.false c.loop-k-test.true _ c.original_steps-each.ensures _
-    counted c.if-times_in-ne1.false
-
-pub returns : goal.returns
-returns c = checked_last _ _ c.loop-k.invariant c.if-steps-ne-TABLE_LENGTH.false c.loop-k-test.false
+pub returns-else-steps-eq-TABLE_LENGTH : goal.returns-else-steps-eq-TABLE_LENGTH
+returns-else-steps-eq-TABLE_LENGTH c = ne_eqb _ 16 c.if-steps-eq-TABLE_LENGTH.false ∙ sym (fits_long _ c.if-steps-eq-TABLE_LENGTH.false)
