@@ -1,6 +1,6 @@
 -- 7, 8 and 9 for both movers, over their baselines alone.
 use Rattle.std.specs.Prelude.{ℕ, ◌≤◌, ◌≡◌, true, List, length, take, replicate}
-use Rattle.std.proofs.Math.Option.{Option, none, some}
+use Rattle.std.proofs.Math.Option.{Option, none}
 use Rattle.base_model.specs.Answers.{Said}
 use Rattle.std.specs.Prelude.{None, Some}
 use Rattle.base_model.specs.declared.Query.{Query}
@@ -9,11 +9,6 @@ use Rattle.rule_routes.specs.Edges.{Step}
 use Rattle.rule_layouts.specs.Inputs.{Inputs}
 use Rattle.call_passage.specs.Passages.{passage_over}
 use Rattle.call_checks.specs.Parts.{allow_long}
-
--- the first refusal of two answers
-unfoldable pub or_else : Option Said → Option Said → Option Said
-or_else none b = b
-or_else (some r) b = some r
 
 -- for the allowed mover, if there is one
 unfoldable pub allow_passage : List Step → Query → List ℕ → Option Said
@@ -33,12 +28,6 @@ pub record Movable (q : Query) (block_base allow_base queue predecessors route :
   pub swept : Swept q queue predecessors route
   pub block : centres q.window ≤ length block_base
   pub allow : allow_long (centres q.window) q.allow (length allow_base) ≡ true
-
--- three areas are as they were
-pub record ThreeSame (queue predecessors route queue' predecessors' route' : List ℕ) : Type 0 where
-  pub queue_same : queue' ≡ queue
-  pub predecessors_same : predecessors' ≡ predecessors
-  pub route_same : route' ≡ route
 
 -- the inputs with this query and these baselines
 pub record Bases (i : Inputs) (q : Query) (block_base allow_base : List ℕ) : Type 0 where
