@@ -1,53 +1,43 @@
 // Check 16, on a record and the areas of its search.
 #![tactic(auto)]
 
-ghost use Rattle.std.specs.Prelude.{◌≡◌, List, ℕ, ◌/◌, length};
-ghost use Rattle.rule_layouts.specs.Flat.{inputs_of};
+ghost use Rattle.std.specs.Prelude.{◌≡◌, ◌/◌, length};
 ghost use Rattle.rule_calls.specs.RecordCheck.{record_fits};
+ghost use Rattle.set_places.specs.Given.{inputs_in};
+ghost use Rattle.call_lengths.specs.Lent.{kept_in};
 ghost use Rattle.call_record.specs.Given.{ChecksFound};
-ghost use Rattle.rule_calls.specs.Areas.{store_in};
 
-use base_model::{Limits, NUMBERS, Query, Record, SLOTS, index};
+use base_model::{Limits, NUMBERS, Record, SLOTS};
+use call_lengths::Kept;
 use call_lists::lists_fit;
 use call_rows::{numbers_fit, route_cap, routes_fit, rows_fit};
+use set_places::Given;
 
 // How many lists there are at most, as the number of 32 bits that it is compared with.
 const MOST_LISTS: u32 = SLOTS as u32;
 
 // Check 16 on what the checks before it have let pass.
-pub fn record_fits(
-    query: Query,
-    limits: Limits,
-    groups: &[u32],
-    numbers: &[u32],
-    edges: &[i32],
-    rec: Record,
-    lists: &[u16],
-    visited: &[u16],
-    layouts: &[u16],
-) -> bool
-    requires { ChecksFound query limits (length numbers.now / 4) groups.now numbers.now edges.now lists.now visited.now
-        layouts.now }
-    ensures { (block_base allow_base points : List ℕ)
-        → result ≡ record_fits (inputs_of query groups.now numbers.now edges.now block_base allow_base) rec
-        (store_in lists.now visited.now layouts.now points) limits }
+pub fn record_fits(given: &Given<'_>, limits: Limits, rec: Record, kept: &Kept<'_>) -> bool
+    requires { ChecksFound given.now.query limits (length given.now.places.numbers.now / 4) given.now.places.groups.now
+        given.now.places.numbers.now given.now.places.edges.now kept.now.lists.now kept.now.visited.now kept.now.layouts.now }
+    ensures { result ≡ record_fits (inputs_in given.now) rec (kept_in kept.now) limits }
 {
-    let n = numbers.len() / NUMBERS;
+    let n = given.places.numbers.len() / NUMBERS;
+    let layouts = rec.layouts as usize;
     if !numbers_fit(limits, n, rec) {
         return false;
     }
-    if !rows_fit(visited, index(rec.evaluations), n) {
+    if !rows_fit(kept.visited, rec.evaluations as usize, n) {
         return false;
     }
-    if !rows_fit(layouts, index(rec.layouts), n) {
+    if !rows_fit(kept.layouts, layouts, n) {
         return false;
     }
-    let routes = rec.routes;
-    if !routes_fit(routes, index(rec.layouts), route_cap(query)) {
+    if !routes_fit(&rec.routes[..layouts], route_cap(given.query)) {
         return false;
     }
     if rec.lists > MOST_LISTS {
         return false;
     }
-    lists_fit(n, groups, numbers, edges, rec, lists)
+    lists_fit(n, &given.places, rec, kept.lists)
 }

@@ -16,67 +16,68 @@ use Rattle.call_record.proofs.record_fits.Goals as goal
 
 pub returns-then-not-numbers_fit : goal.returns-then-not-numbers_fit
 returns-then-not-numbers_fit c =
-    λ block_base allow_base points.
     let a = c.args in
-    let n : ℕ = length a.numbers.now / 4 in
+    let n : ℕ = length a.given.now.places.numbers.now / 4 in
     let p : figures_fit a.limits n a.rec ≡ false = sym c.numbers_fit.ensures ∙ c.if-not-numbers_fit.true in
-    sym (record_parts a.query a.limits n a.groups.now a.numbers.now a.edges.now a.rec a.lists.now a.visited.now
-    a.layouts.now c.requires.rows.fours c.requires.rows.eights block_base allow_base points
-    ∙ fails_1 (figures_fit a.limits n a.rec) (all_of (row_fits n a.visited.now) (below a.rec.evaluations)) (all_of (row_fits n a.layouts.now) (below a.rec.layouts))
-    (routes_pass (cap_of a.query) (take a.rec.layouts a.rec.routes)) (leb a.rec.lists 6)
-    (all_of (list_passes (places_in n a.groups.now a.numbers.now a.edges.now) a.rec a.lists.now)
+    sym (record_parts a.given.now.query a.limits n a.given.now.places.groups.now a.given.now.places.numbers.now a.given.now.places.edges.now a.rec a.kept.now.lists.now a.kept.now.visited.now
+    a.kept.now.layouts.now c.requires.rows.fours c.requires.rows.eights a.given.now.block_base.now a.given.now.allow_base.now a.kept.now.points.now
+    ∙ fails_1 (figures_fit a.limits n a.rec) (all_of (row_fits n a.kept.now.visited.now) (below a.rec.evaluations)) (all_of (row_fits n a.kept.now.layouts.now) (below a.rec.layouts))
+    (routes_pass (cap_of a.given.now.query) (take a.rec.layouts a.rec.routes)) (leb a.rec.lists 6)
+    (all_of (list_passes (places_in n a.given.now.places.groups.now a.given.now.places.numbers.now a.given.now.places.edges.now) a.rec a.kept.now.lists.now)
     (below a.rec.lists)) p)
 
 pub rows_fit-requires : goal.rows_fit-requires
 rows_fit-requires c =
     let a = c.args in
-    let n : ℕ = length a.numbers.now / 4 in
+    let n : ℕ = length a.given.now.places.numbers.now / 4 in
     let p : figures_fit a.limits n a.rec ≡ true = sym c.numbers_fit.ensures ∙ c.if-not-numbers_fit.false in
     let t = numbers_tell a.limits n a.rec p in
-    omega (arith, t.visits, c.index.ensures, c.requires.visited_long)
+    omega (arith, t.visits, c.requires.visited_long)
 
 pub returns-then-not-rows_fit : goal.returns-then-not-rows_fit
 returns-then-not-rows_fit c =
-    λ block_base allow_base points.
     let a = c.args in
-    let n : ℕ = length a.numbers.now / 4 in
+    let n : ℕ = length a.given.now.places.numbers.now / 4 in
     let p : figures_fit a.limits n a.rec ≡ true = sym c.numbers_fit.ensures ∙ c.if-not-numbers_fit.false in
-    let q : all_of (row_fits n a.visited.now) (below a.rec.evaluations) ≡ false =
-    ap (λ (x : ℕ). all_of (row_fits n a.visited.now) (below x)) (sym c.index.ensures)
-    ∙ sym c.rows_fit.ensures ∙ c.if-not-rows_fit.true in
-    sym (record_parts a.query a.limits n a.groups.now a.numbers.now a.edges.now a.rec a.lists.now a.visited.now
-    a.layouts.now c.requires.rows.fours c.requires.rows.eights block_base allow_base points
-    ∙ fails_2 (figures_fit a.limits n a.rec) (all_of (row_fits n a.visited.now) (below a.rec.evaluations)) (all_of (row_fits n a.layouts.now) (below a.rec.layouts))
-    (routes_pass (cap_of a.query) (take a.rec.layouts a.rec.routes)) (leb a.rec.lists 6)
-    (all_of (list_passes (places_in n a.groups.now a.numbers.now a.edges.now) a.rec a.lists.now)
+    let q : all_of (row_fits n a.kept.now.visited.now) (below a.rec.evaluations) ≡ false =
+    sym c.rows_fit.ensures ∙ c.if-not-rows_fit.true in
+    sym (record_parts a.given.now.query a.limits n a.given.now.places.groups.now a.given.now.places.numbers.now a.given.now.places.edges.now a.rec a.kept.now.lists.now a.kept.now.visited.now
+    a.kept.now.layouts.now c.requires.rows.fours c.requires.rows.eights a.given.now.block_base.now a.given.now.allow_base.now a.kept.now.points.now
+    ∙ fails_2 (figures_fit a.limits n a.rec) (all_of (row_fits n a.kept.now.visited.now) (below a.rec.evaluations)) (all_of (row_fits n a.kept.now.layouts.now) (below a.rec.layouts))
+    (routes_pass (cap_of a.given.now.query) (take a.rec.layouts a.rec.routes)) (leb a.rec.lists 6)
+    (all_of (list_passes (places_in n a.given.now.places.groups.now a.given.now.places.numbers.now a.given.now.places.edges.now) a.rec a.kept.now.lists.now)
     (below a.rec.lists)) p q)
 
 pub rows_fit-requires-2 : goal.rows_fit-requires-2
 rows_fit-requires-2 c =
     let a = c.args in
-    let n : ℕ = length a.numbers.now / 4 in
+    let n : ℕ = length a.given.now.places.numbers.now / 4 in
     let p : figures_fit a.limits n a.rec ≡ true = sym c.numbers_fit.ensures ∙ c.if-not-numbers_fit.false in
     let t = numbers_tell a.limits n a.rec p in
-    omega (arith, t.shown, c.index-2.ensures, c.requires.layouts_long)
+    omega (arith, t.shown, c.requires.layouts_long)
 
 pub returns-then-not-rows_fit-2 : goal.returns-then-not-rows_fit-2
 returns-then-not-rows_fit-2 c =
-    λ block_base allow_base points.
     let a = c.args in
-    let n : ℕ = length a.numbers.now / 4 in
+    let n : ℕ = length a.given.now.places.numbers.now / 4 in
     let p : figures_fit a.limits n a.rec ≡ true = sym c.numbers_fit.ensures ∙ c.if-not-numbers_fit.false in
-    let q : all_of (row_fits n a.visited.now) (below a.rec.evaluations) ≡ true =
-    ap (λ (x : ℕ). all_of (row_fits n a.visited.now) (below x)) (sym c.index.ensures)
-    ∙ sym c.rows_fit.ensures ∙ c.if-not-rows_fit.false in
-    let r : all_of (row_fits n a.layouts.now) (below a.rec.layouts) ≡ false =
-    ap (λ (x : ℕ). all_of (row_fits n a.layouts.now) (below x)) (sym c.index-2.ensures)
-    ∙ sym c.rows_fit-2.ensures ∙ c.if-not-rows_fit-2.true in
-    sym (record_parts a.query a.limits n a.groups.now a.numbers.now a.edges.now a.rec a.lists.now a.visited.now
-    a.layouts.now c.requires.rows.fours c.requires.rows.eights block_base allow_base points
-    ∙ fails_3 (figures_fit a.limits n a.rec) (all_of (row_fits n a.visited.now) (below a.rec.evaluations)) (all_of (row_fits n a.layouts.now) (below a.rec.layouts))
-    (routes_pass (cap_of a.query) (take a.rec.layouts a.rec.routes)) (leb a.rec.lists 6)
-    (all_of (list_passes (places_in n a.groups.now a.numbers.now a.edges.now) a.rec a.lists.now)
+    let q : all_of (row_fits n a.kept.now.visited.now) (below a.rec.evaluations) ≡ true =
+    sym c.rows_fit.ensures ∙ c.if-not-rows_fit.false in
+    let r : all_of (row_fits n a.kept.now.layouts.now) (below a.rec.layouts) ≡ false =
+    sym c.rows_fit-2.ensures ∙ c.if-not-rows_fit-2.true in
+    sym (record_parts a.given.now.query a.limits n a.given.now.places.groups.now a.given.now.places.numbers.now a.given.now.places.edges.now a.rec a.kept.now.lists.now a.kept.now.visited.now
+    a.kept.now.layouts.now c.requires.rows.fours c.requires.rows.eights a.given.now.block_base.now a.given.now.allow_base.now a.kept.now.points.now
+    ∙ fails_3 (figures_fit a.limits n a.rec) (all_of (row_fits n a.kept.now.visited.now) (below a.rec.evaluations)) (all_of (row_fits n a.kept.now.layouts.now) (below a.rec.layouts))
+    (routes_pass (cap_of a.given.now.query) (take a.rec.layouts a.rec.routes)) (leb a.rec.lists 6)
+    (all_of (list_passes (places_in n a.given.now.places.groups.now a.given.now.places.numbers.now a.given.now.places.edges.now) a.rec a.kept.now.lists.now)
     (below a.rec.lists)) p q r)
+
+pub shared_ref_as_front-routes_fit : goal.shared_ref_as_front-routes_fit
+shared_ref_as_front-routes_fit c =
+    let a = c.args in
+    let n : ℕ = length a.given.now.places.numbers.now / 4 in
+    let t = numbers_tell a.limits n a.rec (sym c.numbers_fit.ensures ∙ c.if-not-numbers_fit.false) in
+    omega (arith, t.shown, c.requires.results)
 
 pub route_cap-requires : goal.route_cap-requires
 route_cap-requires c = c.requires.window
@@ -84,85 +85,73 @@ route_cap-requires c = c.requires.window
 pub routes_fit-requires : goal.routes_fit-requires
 routes_fit-requires c =
     let a = c.args in
-    let n : ℕ = length a.numbers.now / 4 in
+    let n : ℕ = length a.given.now.places.numbers.now / 4 in
     let p : figures_fit a.limits n a.rec ≡ true = sym c.numbers_fit.ensures ∙ c.if-not-numbers_fit.false in
     let t = numbers_tell a.limits n a.rec p in
-    (omega (arith, t.shown, c.index-3.ensures, c.requires.results), c.route_cap.ensures.1)
+    (omega (arith, t.shown, c.requires.results), c.route_cap.ensures.1)
 
 pub returns-then-not-routes_fit : goal.returns-then-not-routes_fit
 returns-then-not-routes_fit c =
-    λ block_base allow_base points.
     let a = c.args in
-    let n : ℕ = length a.numbers.now / 4 in
+    let n : ℕ = length a.given.now.places.numbers.now / 4 in
     let p : figures_fit a.limits n a.rec ≡ true = sym c.numbers_fit.ensures ∙ c.if-not-numbers_fit.false in
-    let q : all_of (row_fits n a.visited.now) (below a.rec.evaluations) ≡ true =
-    ap (λ (x : ℕ). all_of (row_fits n a.visited.now) (below x)) (sym c.index.ensures)
-    ∙ sym c.rows_fit.ensures ∙ c.if-not-rows_fit.false in
-    let r : all_of (row_fits n a.layouts.now) (below a.rec.layouts) ≡ true =
-    ap (λ (x : ℕ). all_of (row_fits n a.layouts.now) (below x)) (sym c.index-2.ensures)
-    ∙ sym c.rows_fit-2.ensures ∙ c.if-not-rows_fit-2.false in
-    let s : routes_pass (cap_of a.query) (take a.rec.layouts a.rec.routes) ≡ false =
-    ap₂ (λ (x y : ℕ). routes_pass x (take y a.rec.routes)) (sym c.route_cap.ensures.0)
-    (sym c.index-3.ensures) ∙ sym c.routes_fit.ensures
+    let q : all_of (row_fits n a.kept.now.visited.now) (below a.rec.evaluations) ≡ true =
+    sym c.rows_fit.ensures ∙ c.if-not-rows_fit.false in
+    let r : all_of (row_fits n a.kept.now.layouts.now) (below a.rec.layouts) ≡ true =
+    sym c.rows_fit-2.ensures ∙ c.if-not-rows_fit-2.false in
+    let s : routes_pass (cap_of a.given.now.query) (take a.rec.layouts a.rec.routes) ≡ false =
+    ap (λ (x : ℕ). routes_pass x (take a.rec.layouts a.rec.routes)) (sym c.route_cap.ensures.0) ∙ sym c.routes_fit.ensures
     ∙ c.if-not-routes_fit.true in
-    sym (record_parts a.query a.limits n a.groups.now a.numbers.now a.edges.now a.rec a.lists.now a.visited.now
-    a.layouts.now c.requires.rows.fours c.requires.rows.eights block_base allow_base points
-    ∙ fails_4 (figures_fit a.limits n a.rec) (all_of (row_fits n a.visited.now) (below a.rec.evaluations)) (all_of (row_fits n a.layouts.now) (below a.rec.layouts))
-    (routes_pass (cap_of a.query) (take a.rec.layouts a.rec.routes)) (leb a.rec.lists 6)
-    (all_of (list_passes (places_in n a.groups.now a.numbers.now a.edges.now) a.rec a.lists.now)
+    sym (record_parts a.given.now.query a.limits n a.given.now.places.groups.now a.given.now.places.numbers.now a.given.now.places.edges.now a.rec a.kept.now.lists.now a.kept.now.visited.now
+    a.kept.now.layouts.now c.requires.rows.fours c.requires.rows.eights a.given.now.block_base.now a.given.now.allow_base.now a.kept.now.points.now
+    ∙ fails_4 (figures_fit a.limits n a.rec) (all_of (row_fits n a.kept.now.visited.now) (below a.rec.evaluations)) (all_of (row_fits n a.kept.now.layouts.now) (below a.rec.layouts))
+    (routes_pass (cap_of a.given.now.query) (take a.rec.layouts a.rec.routes)) (leb a.rec.lists 6)
+    (all_of (list_passes (places_in n a.given.now.places.groups.now a.given.now.places.numbers.now a.given.now.places.edges.now) a.rec a.kept.now.lists.now)
     (below a.rec.lists)) p q r s)
 
 pub returns-then-rec-gt-MOST_LISTS : goal.returns-then-rec-gt-MOST_LISTS
 returns-then-rec-gt-MOST_LISTS c =
-    λ block_base allow_base points.
     let a = c.args in
-    let n : ℕ = length a.numbers.now / 4 in
+    let n : ℕ = length a.given.now.places.numbers.now / 4 in
     let p : figures_fit a.limits n a.rec ≡ true = sym c.numbers_fit.ensures ∙ c.if-not-numbers_fit.false in
-    let q : all_of (row_fits n a.visited.now) (below a.rec.evaluations) ≡ true =
-    ap (λ (x : ℕ). all_of (row_fits n a.visited.now) (below x)) (sym c.index.ensures)
-    ∙ sym c.rows_fit.ensures ∙ c.if-not-rows_fit.false in
-    let r : all_of (row_fits n a.layouts.now) (below a.rec.layouts) ≡ true =
-    ap (λ (x : ℕ). all_of (row_fits n a.layouts.now) (below x)) (sym c.index-2.ensures)
-    ∙ sym c.rows_fit-2.ensures ∙ c.if-not-rows_fit-2.false in
-    let s : routes_pass (cap_of a.query) (take a.rec.layouts a.rec.routes) ≡ true =
-    ap₂ (λ (x y : ℕ). routes_pass x (take y a.rec.routes)) (sym c.route_cap.ensures.0)
-    (sym c.index-3.ensures) ∙ sym c.routes_fit.ensures
+    let q : all_of (row_fits n a.kept.now.visited.now) (below a.rec.evaluations) ≡ true =
+    sym c.rows_fit.ensures ∙ c.if-not-rows_fit.false in
+    let r : all_of (row_fits n a.kept.now.layouts.now) (below a.rec.layouts) ≡ true =
+    sym c.rows_fit-2.ensures ∙ c.if-not-rows_fit-2.false in
+    let s : routes_pass (cap_of a.given.now.query) (take a.rec.layouts a.rec.routes) ≡ true =
+    ap (λ (x : ℕ). routes_pass x (take a.rec.layouts a.rec.routes)) (sym c.route_cap.ensures.0) ∙ sym c.routes_fit.ensures
     ∙ c.if-not-routes_fit.false in
-    sym (record_parts a.query a.limits n a.groups.now a.numbers.now a.edges.now a.rec a.lists.now a.visited.now
-    a.layouts.now c.requires.rows.fours c.requires.rows.eights block_base allow_base points
-    ∙ fails_5 (figures_fit a.limits n a.rec) (all_of (row_fits n a.visited.now) (below a.rec.evaluations)) (all_of (row_fits n a.layouts.now) (below a.rec.layouts))
-    (routes_pass (cap_of a.query) (take a.rec.layouts a.rec.routes)) (leb a.rec.lists 6)
-    (all_of (list_passes (places_in n a.groups.now a.numbers.now a.edges.now) a.rec a.lists.now)
+    sym (record_parts a.given.now.query a.limits n a.given.now.places.groups.now a.given.now.places.numbers.now a.given.now.places.edges.now a.rec a.kept.now.lists.now a.kept.now.visited.now
+    a.kept.now.layouts.now c.requires.rows.fours c.requires.rows.eights a.given.now.block_base.now a.given.now.allow_base.now a.kept.now.points.now
+    ∙ fails_5 (figures_fit a.limits n a.rec) (all_of (row_fits n a.kept.now.visited.now) (below a.rec.evaluations)) (all_of (row_fits n a.kept.now.layouts.now) (below a.rec.layouts))
+    (routes_pass (cap_of a.given.now.query) (take a.rec.layouts a.rec.routes)) (leb a.rec.lists 6)
+    (all_of (list_passes (places_in n a.given.now.places.groups.now a.given.now.places.numbers.now a.given.now.places.edges.now) a.rec a.kept.now.lists.now)
     (below a.rec.lists)) p q r s (lt-leb a.rec.lists 6 c.if-rec-gt-MOST_LISTS.true))
 
 pub lists_fit-requires : goal.lists_fit-requires
 lists_fit-requires c =
     let a = c.args in
-    let n : ℕ = length a.numbers.now / 4 in
+    let n : ℕ = length a.given.now.places.numbers.now / 4 in
     let p : figures_fit a.limits n a.rec ≡ true = sym c.numbers_fit.ensures ∙ c.if-not-numbers_fit.false in
     let t = numbers_tell a.limits n a.rec p in
     record { rows = c.requires.rows; long = c.requires.lists_long; deep = c.if-rec-gt-MOST_LISTS.false; places = t.places }
 
 pub returns : goal.returns
 returns c =
-    λ block_base allow_base points.
     let a = c.args in
-    let n : ℕ = length a.numbers.now / 4 in
+    let n : ℕ = length a.given.now.places.numbers.now / 4 in
     let p : figures_fit a.limits n a.rec ≡ true = sym c.numbers_fit.ensures ∙ c.if-not-numbers_fit.false in
-    let q : all_of (row_fits n a.visited.now) (below a.rec.evaluations) ≡ true =
-    ap (λ (x : ℕ). all_of (row_fits n a.visited.now) (below x)) (sym c.index.ensures)
-    ∙ sym c.rows_fit.ensures ∙ c.if-not-rows_fit.false in
-    let r : all_of (row_fits n a.layouts.now) (below a.rec.layouts) ≡ true =
-    ap (λ (x : ℕ). all_of (row_fits n a.layouts.now) (below x)) (sym c.index-2.ensures)
-    ∙ sym c.rows_fit-2.ensures ∙ c.if-not-rows_fit-2.false in
-    let s : routes_pass (cap_of a.query) (take a.rec.layouts a.rec.routes) ≡ true =
-    ap₂ (λ (x y : ℕ). routes_pass x (take y a.rec.routes)) (sym c.route_cap.ensures.0)
-    (sym c.index-3.ensures) ∙ sym c.routes_fit.ensures
+    let q : all_of (row_fits n a.kept.now.visited.now) (below a.rec.evaluations) ≡ true =
+    sym c.rows_fit.ensures ∙ c.if-not-rows_fit.false in
+    let r : all_of (row_fits n a.kept.now.layouts.now) (below a.rec.layouts) ≡ true =
+    sym c.rows_fit-2.ensures ∙ c.if-not-rows_fit-2.false in
+    let s : routes_pass (cap_of a.given.now.query) (take a.rec.layouts a.rec.routes) ≡ true =
+    ap (λ (x : ℕ). routes_pass x (take a.rec.layouts a.rec.routes)) (sym c.route_cap.ensures.0) ∙ sym c.routes_fit.ensures
     ∙ c.if-not-routes_fit.false in
     c.lists_fit.ensures
-    ∙ sym (record_parts a.query a.limits n a.groups.now a.numbers.now a.edges.now a.rec a.lists.now
-    a.visited.now a.layouts.now c.requires.rows.fours c.requires.rows.eights block_base allow_base points
-    ∙ comes_to (figures_fit a.limits n a.rec) (all_of (row_fits n a.visited.now) (below a.rec.evaluations)) (all_of (row_fits n a.layouts.now) (below a.rec.layouts))
-    (routes_pass (cap_of a.query) (take a.rec.layouts a.rec.routes)) (leb a.rec.lists 6)
-    (all_of (list_passes (places_in n a.groups.now a.numbers.now a.edges.now) a.rec a.lists.now)
+    ∙ sym (record_parts a.given.now.query a.limits n a.given.now.places.groups.now a.given.now.places.numbers.now a.given.now.places.edges.now a.rec a.kept.now.lists.now
+    a.kept.now.visited.now a.kept.now.layouts.now c.requires.rows.fours c.requires.rows.eights a.given.now.block_base.now a.given.now.allow_base.now a.kept.now.points.now
+    ∙ comes_to (figures_fit a.limits n a.rec) (all_of (row_fits n a.kept.now.visited.now) (below a.rec.evaluations)) (all_of (row_fits n a.kept.now.layouts.now) (below a.rec.layouts))
+    (routes_pass (cap_of a.given.now.query) (take a.rec.layouts a.rec.routes)) (leb a.rec.lists 6)
+    (all_of (list_passes (places_in n a.given.now.places.groups.now a.given.now.places.numbers.now a.given.now.places.edges.now) a.rec a.kept.now.lists.now)
     (below a.rec.lists)) p q r s (le-leb a.rec.lists 6 c.if-rec-gt-MOST_LISTS.false))
