@@ -11,7 +11,6 @@ use base_model::{Record, SLOTS};
 use set_places::FlatPlaces;
 
 // Whether placement e is no member and overlaps none.
-#[tactic(auto, using(crate::proofs::Joins::all_apart))]
 fn stands_apart(places: &FlatPlaces<'_>, members: &[u16], e: usize) -> bool
     requires { Beside (length places.now.numbers.now / 4) places.now members.now e }
     ensures { result ≡ apart places.now.edges.now members.now e }
@@ -33,7 +32,6 @@ fn may_join(places: &FlatPlaces<'_>, members: &[u16], e: usize) -> bool
 }
 
 // Whether the entries are placements that may join the members.
-#[tactic(auto, using(crate::proofs::Joins::all_entries))]
 fn entries_join(n: usize, places: &FlatPlaces<'_>, members: &[u16], entries: &[u16]) -> bool
     requires { Entries n places.now members.now }
     ensures { result ≡ all_of (entry_fits (places_at n places.now) members.now) entries.now }

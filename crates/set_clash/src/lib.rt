@@ -11,7 +11,6 @@ ghost use Rattle.set_clash.specs.Clashes.{crowded, clashing};
 use set_places::FlatPlaces;
 
 // Whether a group's slot count is exceeded.
-#[tactic(auto, using(crate::proofs::Looking::any_crowded))]
 pub fn over_slots(places: &FlatPlaces<'_>, set: &[u16]) -> bool
     requires { Rowed (length places.now.numbers.now / 4) places.now.groups.now places.now.numbers.now places.now.edges.now set.now }
     ensures { (n : ℕ) → result ≡ any_of (crowded (places_at n places.now) set.now) set.now }
@@ -21,20 +20,19 @@ pub fn over_slots(places: &FlatPlaces<'_>, set: &[u16]) -> bool
 }
 
 // Whether the footprint of placement i overlaps that of another member.
-#[tactic(auto, using(crate::proofs::Looking::any_clashing))]
 fn clashes(places: &FlatPlaces<'_>, set: &[u16], i: usize) -> bool
     requires named { Named places.now.edges.now set.now }
     requires i_in_bounds { 8 * i + 8 ≤ length places.now.edges.now }
     ensures { result ≡ clashing places.now.edges.now set.now i }
 {
     let footprint = places.footprint(i);
-    set.iter()
-        .map(|&m| m as usize)
-        .any(|m| m != i && ground_rects::intersects(footprint, places.footprint(m)))
+    set.iter().any(|&m| {
+        let m = m as usize;
+        i != m && ground_rects::intersects(footprint, places.footprint(m))
+    })
 }
 
 // Whether the footprints of two members overlap.
-#[tactic(auto, using(crate::proofs::Looking::any_clashes))]
 pub fn overlaps(places: &FlatPlaces<'_>, set: &[u16]) -> bool
     requires { Named places.now.edges.now set.now }
     ensures { result ≡ any_of (clashing places.now.edges.now set.now) set.now }
