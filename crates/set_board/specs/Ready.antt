@@ -7,6 +7,8 @@ use Rattle.ground_rects.specs.Windows.{centres, window_fits, in_window}
 use Rattle.rule_routes.specs.Edges.{steps_of, each_once}
 use Rattle.set_blocked.specs.Blocked.{AllowReady}
 use Rattle.set_extend.specs.Join.{Rowed}
+use Rattle.set_places.specs.declared.Given.{Given}
+use Rattle.set_pass.specs.declared.Areas.{Areas}
 
 -- the inputs of an evaluation or a verdict over n placements
 pub record Ready (q : Query) (groups numbers : List ℕ) (edges : List ℤ) (block_base allow_base : List ℕ) (steps : List ℤ) (set : List ℕ) (n : ℕ) : Type 0 where
@@ -26,3 +28,10 @@ pub record Blank (c : ℕ) (map queue predecessors route : List ℕ) : Type 0 wh
   pub queue_clear : queue ≡ replicate c 0
   pub predecessors_clear : predecessors ≡ replicate c 0
   pub route_clear : route ≡ replicate c 0
+
+-- the same of what is given and of the areas lent
+abbrev pub ReadyFor : Given → (steps : List ℤ) → (set : List ℕ) → ℕ → Type 0
+ReadyFor i steps set n = Ready i.query i.places.groups.now i.places.numbers.now i.places.edges.now i.block_base.now i.allow_base.now steps set n
+
+abbrev pub BlankIn : ℕ → Areas → Type 0
+BlankIn c a = Blank c a.map.now a.queue.now a.predecessors.now a.route.now

@@ -1,6 +1,14 @@
 -- What an evaluation answers and leaves in the areas.
 use Rattle.std.specs.Prelude.{ℕ, ◌≡◌, List, ◌++◌, length, take, drop}
 use Rattle.rule_layouts.specs.Explore.{Outcome, Nothing, Extend, Wall}
+use Rattle.base_model.specs.declared.Query.{Query}
+use Rattle.rule_routes.specs.Edges.{steps_of}
+use Rattle.rule_layouts.specs.Boards.{Board}
+use Rattle.set_places.specs.declared.Given.{Given}
+use Rattle.set_pass.specs.declared.Ground.{Ground}
+use Rattle.set_pass.specs.declared.Areas.{Areas}
+use Rattle.set_board.specs.Ready.{Ready}
+use Rattle.set_board.specs.Board.{flat_board}
 use Rattle.set_explore.specs.declared.Explored as answer
 
 -- the outcome for each answer: the list and the route stand in the first entries of their areas
@@ -43,3 +51,19 @@ pub record MapRestored (map queue predecessors map' queue' predecessors' : List 
   pub map_kept : map' ≡ map
   pub queue_kept : queue' ≡ queue
   pub predecessors_kept : predecessors' ≡ predecessors
+
+-- the same of the areas lent
+abbrev pub MapRestoredIn : Areas → Areas → Type 0
+MapRestoredIn a b = MapRestored a.map.now a.queue.now a.predecessors.now b.map.now b.queue.now b.predecessors.now
+
+-- what is given, and the board of n placements, on a ground
+abbrev pub query_on : Ground → Given → Query
+query_on g i = record { window = g.window; start = i.query.start; end = i.query.end; block = i.query.block; allow = i.query.allow }
+
+abbrev pub ReadyOn : Ground → Given → List ℕ → ℕ → Type 0
+ReadyOn g i set n =
+    Ready (query_on g i) g.places.groups.now g.places.numbers.now g.places.edges.now i.block_base.now i.allow_base.now g.steps.now set n
+
+abbrev pub board_on : Ground → Given → ℕ → Board
+board_on g i n =
+    flat_board (query_on g i) g.start g.end n g.places.groups.now g.places.numbers.now g.places.edges.now i.block_base.now i.allow_base.now (steps_of g.steps.now)

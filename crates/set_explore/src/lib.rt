@@ -6,17 +6,16 @@ ghost use Rattle.std.proofs.Math.Option.{none};
 ghost use Rattle.ground_rects.specs.Windows.{centres};
 ghost use Rattle.rule_routes.specs.Edges.{steps_of};
 ghost use Rattle.rule_layouts.specs.Inputs.{board_of};
-ghost use Rattle.rule_layouts.specs.Flat.{inputs_of};
 ghost use Rattle.rule_layouts.specs.Explore as layouts;
-ghost use Rattle.set_blocked.specs.Blocked.{blocked_map, mover_in};
-ghost use Rattle.route_find.specs.Results as routing;
-ghost use Rattle.set_board.specs.Ready.{Ready, Blank};
-ghost use Rattle.set_board.specs.Board.{flat_board};
-ghost use Rattle.set_pass.specs.Pass.{RouteLent, Shutting, passed};
-ghost use Rattle.set_explore.specs.Evaluation.{Evaluated, MapRestored};
+ghost use Rattle.set_places.specs.Given.{inputs_in};
+ghost use Rattle.set_board.specs.Ready.{ReadyFor, BlankIn};
+ghost use Rattle.set_pass.specs.Pass.{Shutting};
+ghost use Rattle.set_pass.specs.Lent.{Lent, Restored, block_past, map_block};
+ghost use Rattle.set_explore.specs.Evaluation.{Evaluated, MapRestoredIn, ReadyOn, board_on};
 
-use base_model::Query;
-use set_pass::Passage;
+use set_blocked::Mover;
+use set_pass::{Areas, Ground};
+use set_places::Given;
 
 // What the evaluation of a set comes to: nothing follows, so many extensions in the list, or a wall with so many points of the allowed
 // route in the route.
@@ -28,202 +27,83 @@ pub enum Explored {
 }
 
 // The evaluation of a set that leaves the blocked mover no route and whose map is laid.
-fn wall_of(
-    query: Query,
-    start: usize,
-    end: usize,
-    edges: &[i32],
-    block_base: &[u8],
-    allow_base: &[u8],
-    steps: &[i32],
-    set: &[u16],
-    map: &mut [u8],
-    queue: &mut [u32],
-    predecessors: &mut [u32],
-    route: &mut [u32],
-) -> Explored
-    requires route_lent { RouteLent query.window start end map.old queue.old predecessors.old route.old }
-    requires shutting { Shutting query edges.now block_base.now allow_base.now set.now }
-    requires map_value { map.old ≡ blocked_map (mover_in query.window edges.now query.block block_base.now) (centres query.window)
-        set.now }
-    requires set_value { passed query.window (steps_of steps.now) start end
-        (mover_in query.window edges.now query.block block_base.now) set.now ≡ none }
-    ensures by_index { (n : ℕ) (groups numbers list : List ℕ)
-        → Evaluated
-        (layouts.explore
-        (flat_board query start end n groups numbers edges.now block_base.now allow_base.now
-        (steps_of steps.now))
-        set.now)
-        result list list route.old route.new }
-    ensures search_restored { routing.SearchRestored queue.old predecessors.old
-        queue.new predecessors.new }
+fn wall_of(ground: &Ground<'_>, given: &Given<'_>, set: &[u16], areas: &mut Areas<'_>) -> Explored
+    requires route_lent { Lent ground.now areas.old }
+    requires shutting { Shutting ground.now given.now set.now }
+    requires map_value { areas.old.map.now ≡ map_block ground.now given.now set.now }
+    requires set_value { block_past ground.now given.now set.now ≡ none }
+    ensures by_index { (n : ℕ) (list : List ℕ)
+        → Evaluated (layouts.explore (board_on ground.now given.now n) set.now)
+        result list list areas.old.route.now areas.new.route.now }
+    ensures search_restored { Restored areas.old areas.new }
+    ensures map_bytes { length areas.new.map.now ≡ centres ground.now.window }
+    ensures route_length { length areas.new.route.now ≡ length areas.old.route.now }
 {
-    if map[start] != 0 {
+    if !set_pass::ends_open(ground, areas) {
         return Explored::Nothing;
     }
-    if map[end] != 0 {
+    let block = Mover {
+        bounds: given.query.block,
+        base: given.block_base,
+    };
+    if !set_pass::is_minimal_block(ground, &block, set, areas) {
         return Explored::Nothing;
     }
-    let window = query.window;
-    let block = query.block;
-    if !set_pass::is_minimal_block(
-        block_base,
-        window,
-        start,
-        end,
-        edges,
-        block,
-        steps,
-        set,
-        map,
-        queue,
-        predecessors,
-        route,
-    ) {
-        return Explored::Nothing;
-    }
-    let allow = query.allow;
-    match set_pass::allowed_route(
-        allow,
-        allow_base,
-        window,
-        start,
-        end,
-        edges,
-        steps,
-        set,
-        map,
-        queue,
-        predecessors,
-        route,
-    ) {
-        Passage::Shut => Explored::Nothing,
-        Passage::Free(k) => Explored::Wall(k),
+    match set_pass::allowed_route(ground, given.query.allow, given.allow_base, set, areas) {
+        Some(n) => Explored::Wall(n),
+        None => Explored::Nothing,
     }
 }
 
 // The evaluation of the set, which leaves its map behind.
-fn evaluate(
-    query: Query,
-    start: usize,
-    end: usize,
-    groups: &[u32],
-    numbers: &[u32],
-    edges: &[i32],
-    block_base: &[u8],
-    allow_base: &[u8],
-    steps: &[i32],
-    set: &[u16],
-    list: &mut [u16],
-    map: &mut [u8],
-    queue: &mut [u32],
-    predecessors: &mut [u32],
-    route: &mut [u32],
-) -> Explored
-    requires ready { Ready query groups.now numbers.now edges.now block_base.now allow_base.now steps.now set.now
-        (length list.old) }
-    requires route_lent { RouteLent query.window start end map.old queue.old predecessors.old route.old }
-    ensures evaluated { Evaluated
-        (layouts.explore
-        (flat_board query start end (length list.old) groups.now numbers.now edges.now
-        block_base.now allow_base.now (steps_of steps.now))
-        set.now)
-        result list.old list.new route.old route.new }
-    ensures search_restored { routing.SearchRestored queue.old predecessors.old
-        queue.new predecessors.new }
+fn evaluate(ground: &Ground<'_>, given: &Given<'_>, set: &[u16], list: &mut [u16], areas: &mut Areas<'_>) -> Explored
+    requires ready { ReadyOn ground.now given.now set.now (length list.old) }
+    requires route_lent { Lent ground.now areas.old }
+    ensures evaluated { Evaluated (layouts.explore (board_on ground.now given.now (length list.old)) set.now)
+        result list.old list.new areas.old.route.now areas.new.route.now }
+    ensures search_restored { Restored areas.old areas.new }
+    ensures map_bytes { length areas.new.map.now ≡ centres ground.now.window }
+    ensures route_length { length areas.new.route.now ≡ length areas.old.route.now }
 {
-    let window = query.window;
-    let block = query.block;
-    let n = set.len();
-    let k = set_pass::route_past(
-        block_base,
-        window,
-        start,
-        end,
-        edges,
-        block,
-        steps,
-        set,
-        n,
-        map,
-        queue,
-        predecessors,
-        route,
-    );
-    if k == 0 {
-        return wall_of(
-            query,
-            start,
-            end,
-            edges,
-            block_base,
-            allow_base,
-            steps,
-            set,
-            map,
-            queue,
-            predecessors,
-            route,
-        );
-    }
-    let found = set_extend::extensions(window, block, groups, numbers, edges, set, route, k, list);
-    base_areas::clear_u32(route, k);
+    let block = Mover {
+        bounds: given.query.block,
+        base: given.block_base,
+    };
+    let Some(n) = set_pass::route_past(ground, &block, set, None, areas) else {
+        return wall_of(ground, given, set, areas);
+    };
+    let route = &mut *areas.route;
+    let found = set_extend::extensions(&ground.places, ground.window, block.bounds, set, &route[..n], list);
+    base_areas::clear(route, n, 0);
     Explored::Extend(found)
 }
 
 // The evaluation of a set: its extensions, in index order, in the first entries of the list, or the allowed route past a wall in those of
 // the route. The other areas are zero before and after.
 pub fn explore(
-    query: Query,
-    groups: &[u32],
-    numbers: &[u32],
-    edges: &[i32],
-    block_base: &[u8],
-    allow_base: &[u8],
+    given: &Given<'_>,
     steps: &[i32],
     set: &[u16],
     list: &mut [u16],
-    map: &mut [u8],
-    queue: &mut [u32],
-    predecessors: &mut [u32],
-    route: &mut [u32],
+    areas: &mut Areas<'_>,
 ) -> Explored
-    requires ready { Ready query groups.now numbers.now edges.now block_base.now allow_base.now steps.now set.now
-        (length list.old) }
-    requires blank { Blank (centres query.window) map.old queue.old predecessors.old route.old }
-    ensures evaluated { Evaluated
-        (layouts.explore
-        (board_of (steps_of steps.now)
-        (inputs_of query groups.now numbers.now edges.now block_base.now
-        allow_base.now))
-        set.now)
-        result list.old list.new route.old route.new }
-    ensures map_restored { MapRestored map.old queue.old predecessors.old
-        map.new queue.new predecessors.new }
+    requires ready { ReadyFor given.now steps.now set.now (length list.old) }
+    requires blank { BlankIn (centres given.now.query.window) areas.old }
+    ensures evaluated { Evaluated (layouts.explore (board_of (steps_of steps.now) (inputs_in given.now)) set.now)
+        result list.old list.new areas.old.route.now areas.new.route.now }
+    ensures map_restored { MapRestoredIn areas.old areas.new }
+    ensures route_length { length areas.new.route.now ≡ length areas.old.route.now }
 {
-    let window = query.window;
-    let from = query.start;
-    let to = query.end;
-    let start = ground_centres::centre_at(window, from);
-    let end = ground_centres::centre_at(window, to);
-    let r = evaluate(
-        query,
-        start,
-        end,
-        groups,
-        numbers,
-        edges,
-        block_base,
-        allow_base,
+    let query = given.query;
+    let ground = Ground {
+        window: query.window,
+        start: ground_centres::centre_at(query.window, query.start),
+        end: ground_centres::centre_at(query.window, query.end),
+        places: given.places,
         steps,
-        set,
-        list,
-        map,
-        queue,
-        predecessors,
-        route,
-    );
-    let c = map.len();
-    base_areas::clear_bytes(map, c);
-    r
+    };
+    let explored = evaluate(&ground, given, set, list, areas);
+    let n = areas.map.len();
+    base_areas::clear(areas.map, n, 0);
+    explored
 }

@@ -6,6 +6,7 @@ use mathlib.Core.Path.{◌≡◌, refl}
 use mathlib.Core.Option.{Option, none, some}
 use mathlib.Core.List.{List, []}
 use lib.IntN.{ℤ}
+use lib.ListN.{length}
 use Rattle.base_model.specs.declared.Rect.{Rect}
 use Rattle.base_model.specs.declared.Bounds.{Bounds}
 use Rattle.base_model.specs.Allow.{Allow}
@@ -14,6 +15,7 @@ use Rattle.rule_routes.specs.Edges.{Step}
 use Rattle.rule_layouts.specs.Boards.{Mover}
 use Rattle.route_find.specs.Results.{Routed, counted, laid_into}
 use Rattle.set_blocked.specs.Blocked.{blocked_map, mover_in, allow_in, AllowReady, Named}
+use Rattle.set_blocked.proofs.Members.{length_blocked}
 use Rattle.set_pass.specs.Pass.{Moving, passed, allowed_past}
 use Rattle.set_pass.specs.Maps.{map_after_allowed}
 use Rattle.set_pass.specs.Allowed.{Allowed}
@@ -53,3 +55,8 @@ pub past_cases : (w : Rect) (steps : List Step) (start end : ℕ) (s : List ℕ)
 unfolding allowed_past
 past_cases w steps start end s none = refl
 past_cases w steps start end s (some m) = refl
+
+pub length_allowed : (w : Rect) (a : Option Mover) (s cells : List ℕ) → length cells ≡ centres w → length (map_after_allowed w a s cells) ≡ centres w
+unfolding map_after_allowed
+length_allowed w none s cells z = z
+length_allowed w (some m) s cells z = length_blocked m (centres w) s

@@ -4,7 +4,7 @@ use Prim.Native.Nat.{ℕ, ◌*◌, ◌≤◌, ◌<◌}
 use Rattle.std.specs.Prelude as std
 use Rattle.std.specs.Prelude.{Some, None}
 use mathlib.Core.Path.{◌≡◌, refl, sym, ap, ap₂, ◌∙◌}
-use mathlib.Core.Bool.{Bool, true, false, not}
+use mathlib.Core.Bool.{Bool, true, false, not, ◌&&◌}
 use mathlib.Core.Option.{Option, none, some}
 use mathlib.Core.List.{List, ◌++◌}
 use native.Mathlib.Omega.{arith}
@@ -30,9 +30,14 @@ open_bit true = refl
 open_bit false = refl
 
 -- a byte of the map is zero where the set leaves the centre open
-pub open_is : (m : Mover) (n : ℕ) (s cells : List ℕ) → cells ≡ blocked_map m n s → (c : ℕ) → c < n → open_in cells c ≡ leaves_open m s c
+open_is : (m : Mover) (n : ℕ) (s cells : List ℕ) → cells ≡ blocked_map m n s → (c : ℕ) → c < n → open_in cells c ≡ leaves_open m s c
 unfolding open_in
 open_is m n s cells e c h = ap (λ (x : ℕ). eqb x 0) (ap (λ (l : List ℕ). get_or l c 0) e ∙ blocked_at_lem m n s c h) ∙ open_bit (leaves_open m s c)
+
+-- the ends on the map, and past the set
+pub ends_are : (w : Rect) (start end : ℕ) (m : Mover) (s cells : List ℕ) → cells ≡ blocked_map m (centres w) s → start < centres w → end < centres w
+    → open_in cells start && open_in cells end ≡ leaves_open m s start && leaves_open m s end
+ends_are w start end m s cells e a b = ap₂ ◌&&◌ (open_is m (centres w) s cells e start a) (open_is m (centres w) s cells e end b)
 
 pub past_is : (w : Rect) (steps : List Step) (start end : ℕ) (m : Mover) (s cells : List ℕ) (W H : ℕ) → W ≡ width w → H ≡ height w → cells ≡ blocked_map m (centres w) s
     → start < centres w → end < centres w → routes.route (window_edges W H steps) (W * H) (open_in cells) start end ≡ passed w steps start end m s

@@ -59,3 +59,10 @@ map_lifted g m set cells = map_after_lifting g.window (steps_of g.steps.now) g.s
 
 abbrev pub map_allowed : Ground → Option boards.Mover → (set cells : List ℕ) → List ℕ
 map_allowed g allow set cells = map_after_allowed g.window allow set cells
+
+-- the same of the blocked mover of what is given
+abbrev pub block_past : Ground → Given → List ℕ → Option (List ℕ)
+block_past g given set = passed g.window (steps_of g.steps.now) g.start g.end (block_on g given) set
+
+abbrev pub map_block : Ground → Given → List ℕ → List ℕ
+map_block g given set = blocked_map (block_on g given) (centres g.window) set

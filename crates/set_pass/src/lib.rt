@@ -1,9 +1,10 @@
 // Who passes a set of placements: a route past it, whether it is a minimal block, the allowed mover's route.
 #![tactic(auto)]
 
-ghost use Rattle.std.specs.Prelude.{◌≡◌, true, length};
+ghost use Rattle.std.specs.Prelude.{◌≡◌, ◌<◌, ◌&&◌, true, length};
 ghost use Rattle.base_laws.specs.Lists.{ascends, is_some};
 ghost use Rattle.set_blocked.specs.Blocked.{left_by, AllowReady, Named};
+ghost use Rattle.route_find.specs.Ground.{open_in};
 ghost use Rattle.route_find.specs.Results.{Routed};
 ghost use Rattle.set_pass.specs.Lent.{Lent, Meets, Kept, Restored, past, is_minimal, allow_on, allowed_on, map_past, map_lifted, map_allowed};
 ghost use Rattle.set_pass.specs.Allowed.{Allowed};
@@ -30,6 +31,15 @@ pub struct Areas<'a> {
     pub queue: &'a mut [u32],
     pub predecessors: &'a mut [u32],
     pub route: &'a mut [u32],
+}
+
+// Whether both ends are open on the map.
+#[tactic(auto, unfolding(route_step::specs::Ground::open_in))]
+pub fn ends_open(ground: &Ground<'_>, areas: &Areas<'_>) -> bool
+    requires { (ground.now.start < length areas.now.map.now) × (ground.now.end < length areas.now.map.now) }
+    ensures { result ≡ open_in areas.now.map.now ground.now.start && open_in areas.now.map.now ground.now.end }
+{
+    areas.map[ground.start] == 0 && areas.map[ground.end] == 0
 }
 
 // Lays the set, without its member number `lifted` where one is lifted, over the mover's baseline, and the mover's route past it into the
