@@ -92,8 +92,8 @@ pixel_y_lem : (w : Rect) (n c : ℕ) → w.top ≡ pos n → pos (n + c / width 
 unfolding pixel_y
 pixel_y_lem w n c e = rw e
 
--- the edge depends on the map's size alone
-edge_same : (m : Map) (obs : List Rect) (b : Bounds) (x y : ℤ) → off_edge (record { across = m.across; down = m.down; cells = [] }) [] b x y ≡ off_edge m obs b x y
+-- the edge does not depend on the obstacles
+edge_same : (m : Map) (obs : List Rect) (b : Bounds) (x y : ℤ) → off_edge m [] b x y ≡ off_edge m obs b x y
 unfolding off_edge
 edge_same m obs b x y = refl
 
@@ -122,7 +122,7 @@ module _ (m : Map) (obs : List Rect) (w : Rect) (b : Bounds) where
         let e = k.counts l.spans l.stamped l.inside (omega (arith, l.many)) (c / width w * (width w + 1) + c % width w) (omega (arith, column_lt w f.filled c)) in
         (rw (digits_mod (c / width w) {m = width w + 1} {r = c % width w} x, digits_div (c / width w) {m = width w + 1} {r = c % width w} x) at e) ∙ ap pos (l.law c h)
 
-    byte_mark : (c : ℕ) → c < centres w → blocked_at m.across m.down b (up w.left) (up w.top) (width w) out c ≡ mark m obs b (pixel_x w c) (pixel_y w c)
+    byte_mark : (c : ℕ) → c < centres w → blocked_at m b (up w.left) (up w.top) (width w) out c ≡ mark m obs b (pixel_x w c) (pixel_y w c)
     unfolding blocked_at mark
     byte_mark c h =
         let f = framed 8192 8192 w fits in
@@ -134,7 +134,7 @@ module _ (m : Map) (obs : List Rect) (w : Rect) (b : Bounds) where
         (edge_same m obs b (pos (up w.left + c % width w)) (pos (up w.top + c / width w)) ∙ ap₂ (off_edge m obs b) (pixel_x_lem w (up w.left) c f.left) (pixel_y_lem w (up w.top) c f.top)))
         ∙ bit_elim (off_terrain m obs b x y || off_obstacle m obs b x y || off_edge m obs b x y)
 
-    pub filled_baseline : (u : List ℕ) → filled (blocked_at m.across m.down b (up w.left) (up w.top) (width w) out) (centres w) u ≡ baseline_of m obs b w ++ drop (centres w) u
+    pub filled_baseline : (u : List ℕ) → filled (blocked_at m b (up w.left) (up w.top) (width w) out) (centres w) u ≡ baseline_of m obs b w ++ drop (centres w) u
     unfolding filled baseline_of
     filled_baseline u =
-        filled_same (blocked_at m.across m.down b (up w.left) (up w.top) (width w) out) (λ (c : ℕ). mark m obs b (pixel_x w c) (pixel_y w c)) (centres w) u byte_mark
+        filled_same (blocked_at m b (up w.left) (up w.top) (width w) out) (λ (c : ℕ). mark m obs b (pixel_x w c) (pixel_y w c)) (centres w) u byte_mark

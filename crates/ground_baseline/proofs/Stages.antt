@@ -46,11 +46,10 @@ module _ (m : Map) (obs : List ℤ) (w : Rect) (b : Bounds) (v₀ : List ℤ) (n
         ((omega arith, (k.across_le, q.0)), (setting, record { rest = drop ((x + 1) * (h + 1)) v₀; rects = []; laid = laid₁; few = omega arith }))
 
     module _ (v₂ : List ℤ)
-        (f₂ : (down : ℕ) (rest : List ℤ) (rs : List Rect) → RectsStamped w b rest rs v₁
-        → RectsStamped w b rest (shut_cells (record { across = m.across; down = down; cells = m.cells }) (length m.cells) ++ rs) v₂)
+        (f₂ : (rest : List ℤ) (rs : List Rect) → RectsStamped w b rest rs v₁ → RectsStamped w b rest (shut_cells m (length m.cells) ++ rs) v₂)
       where
         laid₂ : RectsStamped w b (drop ((x + 1) * (h + 1)) v₀) (shut_cells m (length m.cells) ++ []) v₂
-        laid₂ = f₂ m.down (drop ((x + 1) * (h + 1)) v₀) [] laid₁
+        laid₂ = f₂ (drop ((x + 1) * (h + 1)) v₀) [] laid₁
 
         few₂ : length (shut_cells m (length m.cells) ++ []) ≤ 1048576
         few₂ =
@@ -103,7 +102,7 @@ module _ (m : Map) (obs : List ℤ) (w : Rect) (b : Bounds) (v₀ : List ℤ) (n
                 rw (← ex, ← eh) (e ∙ ap (λ (l : List ℤ). replicate ((x + 1) * (h + 1)) (pos 0) ++ l) (counted_rest (x + 1) ((x + 1) * (h + 1)) v₃ v₄ k ∙ rest₃))
 
             pub marked : (u₀ u : List ℕ) → u
-                ≡ filled (blocked_at m.across m.down b (up w.left) (up w.top) (width w) v₄) (centres w) u₀ → u
+                ≡ filled (blocked_at m b (up w.left) (up w.top) (width w) v₄) (centres w) u₀ → u
                 ≡ baseline_of m (rects_of obs) b w ++ drop (centres w) u₀
             marked u₀ u e =
                 let j = rw (entries_is, ex) at k in

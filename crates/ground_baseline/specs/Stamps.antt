@@ -1,5 +1,5 @@
 -- The counts of a window, laid with rectangles, and what a baseline reads off them.
-use Rattle.std.specs.Prelude.{◌≡◌, true, ◌&&◌, ◌||◌, List, [], ◌∷◌, map, ℕ, ◌+◌, ◌*◌, ◌/◌, ◌%◌, ◌≤◌, ◌<◌, leb, eqb, ℤ, pos, length, get_or, drop}
+use Rattle.std.specs.Prelude.{◌≡◌, true, ◌&&◌, ◌||◌, List, [], ◌∷◌, map as mapped, ℕ, ◌+◌, ◌*◌, ◌/◌, ◌%◌, ◌≤◌, ◌<◌, leb, eqb, ℤ, pos, length, get_or, drop}
 use Rattle.std.specs.Int.Signed.{lt_z}
 use Rattle.base_laws.specs.Lists.{all_of, select, below}
 use Rattle.base_model.specs.declared.Rect.{Rect}
@@ -17,7 +17,7 @@ hits (r ∷ rs) m x y = bit (keeps_off r m x y) + hits rs m x y
 
 -- the unwalkable of the first k cells
 unfoldable pub shut_cells : Map → ℕ → List Rect
-shut_cells m k = map (cell_rect m) (select (λ (j : ℕ). eqb (get_or m.cells j 1) 0) (below k))
+shut_cells m k = mapped (cell_rect m) (select (λ (j : ℕ). eqb (get_or m.cells j 1) 0) (below k))
 
 -- the entries of a window's counts: a column and a row more than its centres
 unfoldable pub entries : Rect → ℕ
@@ -46,10 +46,10 @@ pub record Setting (stride : ℕ) (w : Rect) (m : Bounds) : Type 0 where
   pub stride_is : stride ≡ width w + 1
 
 -- the byte of centre c of a window at (left, top): 1 where its count is above 0, or the mover leaves the map there
-unfoldable pub blocked_at : (across down : ℕ) → Bounds → (left top width : ℕ) → List ℤ → ℕ → ℕ
-blocked_at across down m left top width counts c =
+unfoldable pub blocked_at : Map → Bounds → (left top width : ℕ) → List ℤ → ℕ → ℕ
+blocked_at map m left top width counts c =
     bit (lt_z (pos 0) (get_or counts (c / width * (width + 1) + c % width) (pos 0))
-    || off_edge (record { across = across; down = down; cells = [] }) [] m (pos (left + c % width)) (pos (top + c / width)))
+    || off_edge map [] m (pos (left + c % width)) (pos (top + c / width)))
 
 -- what marking row y asks
 pub record RowAsked (m : Bounds) (across down left top width y counts baseline : ℕ) : Type 0 where

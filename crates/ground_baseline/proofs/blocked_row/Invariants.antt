@@ -2,7 +2,7 @@
 use mathlib.Core.Path.{◌≡◌, refl, ◌∙◌, subst}
 use mathlib.Core.Bool.{◌||◌}
 use mathlib.Core.List.{List, []}
-use Prim.Native.Nat.{ℕ, ◌+◌, ◌-◌, ◌*◌, ◌≤◌, ◌<◌}
+use Prim.Native.Nat.{ℕ, ◌+◌, ◌*◌, ◌≤◌, ◌<◌}
 use native.Mathlib.Omega.{arith}
 use lib.Arith.{digits_div, digits_mod}
 use lib.IntN.{ℤ, pos}
@@ -12,7 +12,7 @@ use Rattle.base_laws.specs.Fill.{Filling}
 use Rattle.base_laws.proofs.Fill.{filling_more}
 use Rattle.base_model.specs.declared.Bounds.{Bounds}
 use Rattle.ground_counts.specs.Counts.{bit}
-use Rattle.ground_baseline.specs.Baseline.{off_edge}
+use Rattle.ground_baseline.specs.Baseline.{Map, map_of, off_edge}
 use Rattle.ground_baseline.specs.Stamps.{blocked_at}
 use Rattle.ground_baseline.proofs.blocked_row.Given as goal
 
@@ -35,14 +35,11 @@ turned f at width v₀ v x b h r e t = record {
 }
 
 -- the byte at column x of row y
-pub byte : (across down : ℕ) (m : Bounds) (left top width : ℕ) (counts : List ℤ) (y x : ℕ) → x < width
-    → bit (lt_z (pos 0) (get_or counts (y * (width + 1) + x) (pos 0)) || off_edge (record { across = across; down = down; cells = [] }) [] m (pos (left + x)) (pos (top + y)))
-    ≡ blocked_at across down m left top width counts (y * width + x)
+pub byte : (map : Map) (m : Bounds) (left top width : ℕ) (counts : List ℤ) (y x : ℕ) → x < width
+    → bit (lt_z (pos 0) (get_or counts (y * (width + 1) + x) (pos 0)) || off_edge map [] m (pos (left + x)) (pos (top + y)))
+    ≡ blocked_at map m left top width counts (y * width + x)
 unfolding blocked_at
-byte across down m left top width counts y x h = rw (digits_mod y {m = width} {r = x} h, digits_div y {m = width} {r = x} h)
+byte map m left top width counts y x h = rw (digits_mod y {m = width} {r = x} h, digits_div y {m = width} {r = x} h)
 
 abbrev pub invariant-loop-x : goal.invariant-loop-x
-invariant-loop-x l = Turn (blocked_at l.across l.down l.mover l.left l.top l.width l.counts) (l.y * l.width) l.width l.initial.baseline l.baseline l.x
-
-abbrev pub decreases-loop-x : goal.decreases-loop-x
-decreases-loop-x l = l.width - l.x
+invariant-loop-x l = Turn (blocked_at (map_of l.map) l.mover l.left l.top l.width l.counts) (l.y * l.width) l.width l.initial.baseline l.baseline l.x

@@ -3,6 +3,7 @@ use mathlib.Core.Path.{◌∙◌}
 use native.Mathlib.Omega.{arith}
 use lib.ListN.{length}
 use Rattle.ground_rects.proofs.Windows.{framed}
+use Rattle.ground_baseline.specs.Baseline.{map_of}
 use Rattle.ground_baseline.proofs.Stages.{room, asks_terrain, asks_obstacles, asks_finish, asks_centres, cleared, marked}
 use Rattle.ground_baseline.proofs.mark_baseline.Goals as goal
 
@@ -22,7 +23,7 @@ overflow_mul-n c =
     omega (
       arith,
       c.well_formed.1.1.0.0,
-      room (record { across = a.across; down = a.down; cells = a.cells.now }) a.obstacles.now a.window a.mover
+      room (map_of a.map.now) a.obstacles.now a.window a.mover
           a.counts.now (length a.baseline.now) c.width-stride.result c.height.result c.requires
           c.width-stride.ensures.0 c.height.ensures.0,
     )
@@ -30,21 +31,21 @@ overflow_mul-n c =
 pub clear-requires : goal.clear-requires
 clear-requires c =
     let a = c.args in
-    room (record { across = a.across; down = a.down; cells = a.cells.now }) a.obstacles.now a.window a.mover a.counts.now
+    room (map_of a.map.now) a.obstacles.now a.window a.mover a.counts.now
     (length a.baseline.now) c.width-stride.result c.height.result c.requires c.width-stride.ensures.0
     c.height.ensures.0
 
 pub stamp_terrain_blockers-requires : goal.stamp_terrain_blockers-requires
 stamp_terrain_blockers-requires c =
     let a = c.args in
-    asks_terrain (record { across = a.across; down = a.down; cells = a.cells.now }) a.obstacles.now a.window a.mover
+    asks_terrain (map_of a.map.now) a.obstacles.now a.window a.mover
     a.counts.now (length a.baseline.now) c.width-stride.result c.height.result c.requires c.width-stride.ensures.0
     c.height.ensures.0 c.clear.new.s c.clear.ensures
 
 pub stamp_obstacles-requires : goal.stamp_obstacles-requires
 stamp_obstacles-requires c =
     let a = c.args in
-    asks_obstacles (record { across = a.across; down = a.down; cells = a.cells.now }) a.obstacles.now a.window a.mover
+    asks_obstacles (map_of a.map.now) a.obstacles.now a.window a.mover
     a.counts.now (length a.baseline.now) c.width-stride.result c.height.result c.requires c.width-stride.ensures.0
     c.height.ensures.0 c.clear.new.s c.clear.ensures c.stamp_terrain_blockers.new.counts
     c.stamp_terrain_blockers.ensures
@@ -52,7 +53,7 @@ stamp_obstacles-requires c =
 pub finish-requires : goal.finish-requires
 finish-requires c =
     let a = c.args in
-    asks_finish (record { across = a.across; down = a.down; cells = a.cells.now }) a.obstacles.now a.window a.mover
+    asks_finish (map_of a.map.now) a.obstacles.now a.window a.mover
     a.counts.now (length a.baseline.now) c.width-stride.result c.height.result c.requires c.width-stride.ensures.0
     c.height.ensures.0 c.clear.new.s c.clear.ensures c.stamp_terrain_blockers.new.counts
     c.stamp_terrain_blockers.ensures c.stamp_obstacles.new.counts c.stamp_obstacles.ensures
@@ -60,7 +61,7 @@ finish-requires c =
 pub blocked_centers-requires : goal.blocked_centers-requires
 blocked_centers-requires c =
     let a = c.args in
-    asks_centres (record { across = a.across; down = a.down; cells = a.cells.now }) a.obstacles.now a.window a.mover
+    asks_centres (map_of a.map.now) a.obstacles.now a.window a.mover
     a.counts.now (length a.baseline.now) c.width-stride.result c.height.result c.requires c.width-stride.ensures.0
     c.height.ensures.0 c.clear.new.s c.clear.ensures c.stamp_terrain_blockers.new.counts
     c.stamp_terrain_blockers.ensures c.stamp_obstacles.new.counts c.stamp_obstacles.ensures c.finish.new.counts c.finish.ensures
@@ -71,7 +72,7 @@ clear-requires-2 c =
     let a = c.args in
     omega (
       arith,
-      room (record { across = a.across; down = a.down; cells = a.cells.now }) a.obstacles.now a.window a.mover
+      room (map_of a.map.now) a.obstacles.now a.window a.mover
           a.counts.now (length a.baseline.now) c.width-stride.result c.height.result c.requires c.width-stride.ensures.0
           c.height.ensures.0,
       (c.finish.ensures.size ∙ c.stamp_obstacles.auto.counts ∙ c.stamp_terrain_blockers.auto.counts ∙ c.clear.auto.s),
@@ -80,12 +81,12 @@ clear-requires-2 c =
 pub returns : goal.returns
 returns c =
     let a = c.args in record {
-      baseline_after = marked (record { across = a.across; down = a.down; cells = a.cells.now }) a.obstacles.now a.window a.mover
+      baseline_after = marked (map_of a.map.now) a.obstacles.now a.window a.mover
           a.counts.now (length a.baseline.now) c.width-stride.result c.height.result c.requires c.width-stride.ensures.0
           c.height.ensures.0 c.clear.new.s c.clear.ensures c.stamp_terrain_blockers.new.counts
           c.stamp_terrain_blockers.ensures c.stamp_obstacles.new.counts c.stamp_obstacles.ensures c.finish.new.counts c.finish.ensures
           a.baseline.now c.blocked_centers.new.baseline c.blocked_centers.ensures;
-      counts_after = cleared (record { across = a.across; down = a.down; cells = a.cells.now }) a.obstacles.now a.window a.mover
+      counts_after = cleared (map_of a.map.now) a.obstacles.now a.window a.mover
           a.counts.now (length a.baseline.now) c.width-stride.result c.height.result c.requires c.width-stride.ensures.0
           c.height.ensures.0 c.clear.new.s c.clear.ensures c.stamp_terrain_blockers.new.counts
           c.stamp_terrain_blockers.ensures c.stamp_obstacles.new.counts c.stamp_obstacles.ensures c.finish.new.counts c.finish.ensures

@@ -1,5 +1,5 @@
 -- The answers to the goals of `ground_baseline::obstacles_fit`.
-use mathlib.Core.Path.{◌≡◌, sym, ap, ◌∙◌}
+use mathlib.Core.Path.{◌≡◌, refl, sym, ap, ◌∙◌}
 use mathlib.Core.Bool.{Bool, true, false, ◌&&◌, and-false}
 use mathlib.Core.List.{List}
 use Prim.Native.Nat.{ℕ, ◌/◌, ◌%◌, ◌≤◌, ◌<◌}
@@ -7,8 +7,7 @@ use native.Mathlib.Omega.{arith}
 use lib.Dec.{leb}
 use lib.IntN.{ℤ, pos}
 use lib.ListN.{length}
-use borrow.Author.Count.{below_more}
-use borrow.Author.Tests.{le-leb, lt-leb}
+use borrow.Author.Tests.{le-leb, lt-leb, leb-true, leb-false}
 use Rattle.base_laws.specs.Lists.{all_of}
 use Rattle.base_laws.proofs.Tests.{all_true, all_false}
 use Rattle.base_model.specs.declared.Rect.{Rect}
@@ -37,6 +36,13 @@ part obs h = not_all obs (rects_part obs (omega (arith, rects_length obs)))
 one : (obs : List ℤ) (i : ℕ) → i < length obs / 4 → nonempty (nth_rect obs i) ≡ false → fits obs ≡ false
 one obs i h e = not_all obs (all_false nonempty empty (rects_of obs) i (omega (arith, rects_length obs)) (ap nonempty (rects_at obs i empty (omega arith)) ∙ e))
 
+unfit : (obs : List ℤ) → (length obs ≤ 16384 → length obs % 4 ≡ 0 → ⊥) → fits obs ≡ false
+unfit obs f = go (leb (length obs) 16384) refl
+  where
+    go : (t : Bool) → leb (length obs) 16384 ≡ t → fits obs ≡ false
+    go true e = part obs (f (leb-true (length obs) 16384 e))
+    go false e = many obs (leb-false (length obs) 16384 e)
+
 good : (obs : List ℤ) → length obs ≤ 16384 → length obs % 4 ≡ 0 → ((k : ℕ) → k < length obs / 4 → nonempty (nth_rect obs k) ≡ true) → fits obs ≡ true
 unfolding fits
 good obs h e f =
@@ -47,34 +53,14 @@ good obs h e f =
 
 pub returns-then-obstacles-gt-MOST_EDGES : goal.returns-then-obstacles-gt-MOST_EDGES
 unfolding fits
-returns-then-obstacles-gt-MOST_EDGES c = sym (many c.args.obstacles.now c.if-obstacles-gt-MOST_EDGES.true)
-
-pub returns-then-obstacles-ne0 : goal.returns-then-obstacles-ne0
-unfolding fits
-returns-then-obstacles-ne0 c = sym (part c.args.obstacles.now c.if-obstacles-ne0.true)
-
-pub loop-i-init : goal.loop-i-init
-loop-i-init c = (omega arith, λ k h. absurd (omega arith))
-
-pub rect_at-r-requires : goal.rect_at-r-requires
-rect_at-r-requires c = omega (arith, c.loop-i-test.true)
+returns-then-obstacles-gt-MOST_EDGES c = sym (unfit c.args.obstacles.now (λ h k. grind arith))
 
 pub returns-then-not-nonempty : goal.returns-then-not-nonempty
 unfolding fits
 returns-then-not-nonempty c =
     sym (one c.args.obstacles.now c.loop-i.i c.loop-i-test.true
-    (ap nonempty (sym c.rect_at-r.ensures) ∙ sym c.nonempty.ensures ∙ c.if-not-nonempty.true))
-
-pub loop-i-smaller : goal.loop-i-smaller
-loop-i-smaller c = omega (arith, c.loop-i-test.true)
-
-pub loop-i-preserved : goal.loop-i-preserved
-loop-i-preserved c = (
-  omega (arith, c.loop-i-test.true),
-  below_more _ _ c.loop-i.invariant.1 (ap nonempty (sym c.rect_at-r.ensures) ∙ sym c.nonempty.ensures ∙ c.if-not-nonempty.false),
-)
+    (ap nonempty (sym c.rect_at.ensures) ∙ sym c.nonempty.ensures ∙ c.if-not-nonempty.true))
 
 pub returns : goal.returns
 unfolding fits
-returns c = sym (good c.args.obstacles.now c.if-obstacles-gt-MOST_EDGES.false
-    c.if-obstacles-ne0.false (λ k h. c.loop-i.invariant.1 k (omega (arith, c.loop-i-test.false))))
+returns c = sym (good c.args.obstacles.now (omega arith) (omega arith) (λ k h. c.loop-i.invariant.1 k (omega arith)))

@@ -1,7 +1,7 @@
 -- `ground_baseline::stamp_obstacles` meets its contract. Before the turn at i, the first i obstacles have been laid.
 use mathlib.Core.Path.{◌≡◌, refl, ◌∙◌}
 use mathlib.Core.List.{List, ◌∷◌, ◌++◌}
-use Prim.Native.Nat.{ℕ, ◌+◌, ◌-◌, ◌*◌, ◌≤◌, ◌<◌}
+use Prim.Native.Nat.{ℕ, ◌+◌, ◌*◌, ◌≤◌, ◌<◌}
 use native.Mathlib.Numerals.{add-one}
 use native.Mathlib.Omega.{arith}
 use lib.IntN.{ℤ}
@@ -46,6 +46,3 @@ module _ (v₀ : List ℤ) (obs : List ℤ) (w : Rect) (m : Bounds) (whole : len
 
 abbrev pub invariant-loop-i : goal.invariant-loop-i
 invariant-loop-i l = Sweep l.initial.counts l.obstacles l.window l.mover l.counts l.i
-
-abbrev pub decreases-loop-i : goal.decreases-loop-i
-decreases-loop-i l = length (rects_of l.obstacles) - l.i
