@@ -99,10 +99,6 @@ module _ (predecessors : List ℕ) (start end : ℕ) where
         }
 
     module _ (route : List ℕ) (i x : ℕ) (l : Laying route i x) where
-      pub laying_marked : 1 < i → Marked x
-      laying_marked h =
-          let b = back_of l.traced (let e = l.left in omega arith) in marked x b.u b.mark
-
       pub laying_next : 1 < i → (y : ℕ) → y ≡ get_or predecessors x 0 → Laying (set route (i - 1) x) (i - 1) (y - 1)
       laying_next h y e =
           let b = back_of l.traced (let q = l.left in omega arith) in
@@ -139,9 +135,6 @@ module _ (predecessors : List ℕ) (start end : ℕ) where
               ∙ sym (append_assoc (reverse ((y - 1) ∷ b.more)) (x ∷ []) (drop i route))
               ∙ ap (λ (d : List ℕ). d ++ drop i route) (sym (reverse-cons x ((y - 1) ∷ b.more)))
               ∙ ap (λ (d : List ℕ). reverse (x ∷ d) ++ drop i route) (ap (λ (v : ℕ). v ∷ b.more) at ∙ sym b.is)
-
-      pub laying_home : i ≤ 1 → x ≡ start
-      laying_home h = (home_of l.traced (let e = l.left in omega arith)).0
 
       pub laying_done : i ≤ 1 → RouteLaid predecessors start end n route₀ (set route 0 x)
       laying_done h back t =

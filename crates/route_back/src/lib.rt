@@ -25,10 +25,8 @@ pub fn lay(predecessors: &[u32], start: usize, end: usize, n: usize, route: &mut
     requires end_bound { end < 4294967296 }
     ensures { RouteLaid predecessors.now start end n route.old route.new }
 {
-    let mut i = n;
     let mut x = end as u32;
-    while 1 < i {
-        i -= 1;
+    for i in (1..n).rev() {
         route[i] = x;
         x = predecessors[x as usize] - 1;
     }

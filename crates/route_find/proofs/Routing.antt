@@ -21,15 +21,10 @@ use Rattle.rule_routes.specs.Routes.{Route, Searched, search_from, nodes_of}
 use Rattle.route_step.specs.Ground.{open_in}
 use Rattle.route_find.specs.Results.{SearchLent, SearchLeft, SearchFound, point_count, counted, laid_into, RouteFound, Routed, SearchRestored}
 use Rattle.route_back.specs.Ways.{Leads, BackCounted, RouteLaid}
-use Rattle.route_find.proofs.Clears.{clear_room}
 
 -- ---- wiped areas
 module _ (c start : ℕ) (queue predecessors : List ℕ) (lent : SearchLent c start queue predecessors) (tail : ℕ) (queue' predecessors' : List ℕ)
     (left : SearchLeft c tail queue predecessors queue' predecessors') (lq : length queue' ≡ length queue) (lp : length predecessors' ≡ length predecessors) where
-  pub wipe_fits : (tail ≤ length queue') × (c ≤ length predecessors')
-  wipe_fits =
-      let a = clear_room c queue lent.queue_clear in let b = left.short in let d = clear_room c predecessors lent.predecessors_clear in (omega arith, omega arith)
-
   -- past the c centres no predecessor was written
   rest_kept : drop c predecessors' ≡ drop c predecessors
   rest_kept =

@@ -1,5 +1,5 @@
 -- The invariant of a centre's turn over the step table, and that each step keeps it: trying the steps left comes to trying the whole steps.
-use mathlib.Core.Path.{◌≡◌, refl, sym, ap, ◌∙◌}
+use mathlib.Core.Path.{◌≡◌, sym, ap, ◌∙◌}
 use mathlib.Core.List.{List, [], ◌∷◌}
 use Prim.Native.Nat.{ℕ, ◌+◌, ◌*◌, ◌≤◌, ◌<◌}
 use native.Mathlib.Omega.{arith}
@@ -19,9 +19,6 @@ module _ (cells : List ℕ) (width height : ℕ) (steps : List ℤ) (u : ℕ) (x
     pub queue_size : length a.queue ≡ length a₀.queue
     pub predecessors_size : length a.predecessors ≡ length a₀.predecessors
     pub done : tried u (leads cells width height x y (steps_of (drop k steps))) a ≡ tried u (leads cells width height x y (steps_of steps)) a₀
-
-  pub expanding_begin : SearchRoom (width * height) a₀ → Expanding a₀ 0
-  expanding_begin r = record { within = omega arith; room = r; queue_size = refl; predecessors_size = refl; done = refl }
 
   module _ (a : Area) (k : ℕ) (i : Expanding a k) where
     pub expanding_next : k + 1 < length steps → (b : Area)

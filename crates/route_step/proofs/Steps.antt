@@ -4,10 +4,10 @@ use mathlib.Core.Bool.{Bool, true, false, ◌&&◌, true≢false, and-true, and-
 use mathlib.Core.List.Memᴰ
 use mathlib.Core.List.{List, [], ◌∷◌, ◌++◌, map, map-append, Memᴰ}
 use mathlib.Core.Logic.{⊎_elim}
-use Prim.Native.Nat.{ℕ, zero, suc, ◌+◌, ◌*◌, ◌/◌, ◌%◌, ◌≤◌, ◌<◌}
-use native.Mathlib.Nat.{mul_comm, mul-zero, mod-lt, div-lt_iff_lt-mul, mul-le-mul_right}
+use Prim.Native.Nat.{ℕ, zero, suc, ◌+◌, ◌*◌, ◌/◌, ◌%◌, ◌<◌}
+use native.Mathlib.Nat.{mul_comm}
 use native.Mathlib.Omega.{arith}
-use borrow.Author.Tests.{lt-leb, lt-ltb, le-leb, eq-eqb, ne_eqb, ltb-true}
+use borrow.Author.Tests.{lt-leb, lt-ltb, le-leb, eq-eqb, ltb-true}
 use lib.Arith.{digits_lt}
 use lib.Dec.{leb, ltb}
 use lib.IntN.{ℤ, pos, negsuc, ◌+ℤ◌}
@@ -26,10 +26,6 @@ pub open_is : (cells : List ℕ) (c : ℕ) → get_or cells c 0 ≡ 0 → open_i
 unfolding open_in
 open_is cells c e = eq-eqb (get_or cells c 0) 0 e
 
-pub open_not : (cells : List ℕ) (c : ℕ) → (get_or cells c 0 ≡ 0 → ⊥) → open_in cells c ≡ false
-unfolding open_in
-open_not cells c n = ne_eqb (get_or cells c 0) 0 n
-
 -- ---- a part of a step that is zero, and one that is not
 eq_z_not : (a : ℤ) → (a ≡ pos 0 → ⊥) → eq_z a (pos 0) ≡ false
 unfolding eq_z
@@ -42,33 +38,8 @@ zero_bits (pos n) f e = ap pos e
 zero_bits (negsuc n) f e = let h = f.sfits in absurd (omega arith)
 
 -- ---- a window's sizes
-mul_zero_of : (a b : ℕ) → b ≡ 0 → a * b ≡ 0
-mul_zero_of a b e = rw (e, mul-zero)
-
 pub centre_below : {width height x y : ℕ} → x < width → y < height → y * width + x < width * height
 centre_below {width} {height} hx hy = rw (mul_comm width height) (digits_lt hy hx)
-
-module _ (width height u : ℕ) (h : u < width * height) where
-  pub width_above : 0 < width
-  width_above = go width refl
-    where
-      go : (n : ℕ) → width ≡ n → 0 < width
-      go zero e = let z = mul_comm width height ∙ mul_zero_of height width e in absurd (omega arith)
-      go (suc n) e = omega arith
-
-  pub column_below : u % width < width
-  column_below = mod-lt u width_above
-
-  pub row_below : u / width < height
-  row_below = (div-lt_iff_lt-mul {k = width} {x = u} {y = height} width_above).1 (rw (mul_comm height width) h)
-
--- a window that holds a centre has no more columns, and no more rows, than centres
-pub sides_le : {width height x y : ℕ} → x < width → y < height → (width ≤ width * height) × (height ≤ width * height)
-sides_le {width} {height} hx hy =
-    let a : 1 * width ≤ height * width = mul-le-mul_right width (omega arith) in
-    let b : 1 * height ≤ width * height = mul-le-mul_right height (omega arith) in
-    let e = mul_comm width height in
-    omega arith
 
 -- ---- one step
 abbrev usable : List ℕ → Edge → Bool

@@ -1,20 +1,10 @@
 -- The answers to the goals of `route_back::lay`.
 use mathlib.Core.Path.{refl}
-use native.Mathlib.Omega.{arith}
-use Rattle.route_back.proofs.Walks.{laying_begin, laying_marked, laying_next, laying_done}
+use Rattle.route_back.proofs.Walks.{laying_begin, laying_next, laying_done}
 use Rattle.route_back.proofs.lay.Goals as goal
 
 pub loop-i-init : goal.loop-i-init
 loop-i-init c = laying_begin _ _ _ _ _ c.requires.leads c.requires.back_counted
-
-pub offset_bounds-predecessors-x : goal.offset_bounds-predecessors-x
-offset_bounds-predecessors-x c = let m = laying_marked _ _ _ _ _ _ _ _ c.loop-i.invariant c.loop-i-test.true in omega arith
-
-pub bounds-predecessors-x : goal.bounds-predecessors-x
-bounds-predecessors-x c = let m = laying_marked _ _ _ _ _ _ _ _ c.loop-i.invariant c.loop-i-test.true in omega arith
-
-pub overflow_sub-x : goal.overflow_sub-x
-overflow_sub-x c = let m = laying_marked _ _ _ _ _ _ _ _ c.loop-i.invariant c.loop-i-test.true in omega arith
 
 pub loop-i-preserved : goal.loop-i-preserved
 loop-i-preserved c = laying_next _ _ _ _ _ _ _ _ c.loop-i.invariant c.loop-i-test.true _ refl
