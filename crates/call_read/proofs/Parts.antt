@@ -1,16 +1,14 @@
 -- The checks of a reading in three parts, in their order, and what each part has found once it passes.
 use Prim.Native.Nat.{ℕ, ◌*◌, ◌/◌, ◌≤◌}
 use mathlib.Core.Path.{◌≡◌, refl, sym, ◌∙◌, ap, subst}
-use mathlib.Core.Bool.{true, false, not, true≢false}
-use mathlib.Core.Option.{Option, none, some}
+use mathlib.Core.Bool.{true}
+use mathlib.Core.Option.{Option, none}
 use mathlib.Core.List.{List, [], ◌∷◌, ◌++◌, append_assoc}
 use native.Mathlib.Omega.{arith}
 use lib.Dec.{ltb}
 use lib.IntN.{ℤ}
 use lib.ListN.{length}
-use Rattle.base_laws.specs.Lists.{is_some}
-use Rattle.base_model.specs.Answers.{Said, refusal, ask, first}
-use Rattle.base_model.proofs.Asking.{first_holds, first_fails}
+use Rattle.base_model.specs.Answers.{Said, ask, first}
 use Rattle.base_model.specs.declared.Limits.{Limits}
 use Rattle.base_model.specs.declared.Query.{Query}
 use Rattle.base_model.specs.declared.Record.{Record}
@@ -24,26 +22,12 @@ use Rattle.rule_calls.specs.Calls.{read_checks}
 use Rattle.rule_calls.proofs.Sound.{long}
 use Rattle.rule_calls.proofs.StepLaws.{first_both}
 use Rattle.call_checks.specs.Parts.{frame_checks, area_checks}
-use Rattle.call_checks.proofs.Asked.{first_then, first_stops, query_parts}
+use Rattle.call_checks.proofs.Asked.{query_parts}
 use Rattle.call_checks.proofs.Passed.{limits_found, frames_found, areas_found}
 use Rattle.call_checks.proofs.Placed.{places_whole}
 use Rattle.call_lists.specs.Lent.{Rows}
 use Rattle.call_record.specs.Given.{ChecksFound}
 use Rattle.call_read.specs.Parts.{queried, lent, recorded}
-
--- ---- one part after another
-pub stops : (o : Option Said) (xs ys : List (Option Said)) → not (is_some o) ≡ false → o ≡ first xs → o ≡ first (xs ++ ys)
-unfolding is_some
-stops none xs ys e q = absurd (true≢false e)
-stops (some r) xs ys e q = sym (first_stops xs ys r (sym q))
-
-pub goes_on : (o : Option Said) (xs : List (Option Said)) → not (is_some o) ≡ true → o ≡ first xs → first xs ≡ none
-unfolding is_some
-goes_on none xs e q = sym q
-goes_on (some r) xs e q = absurd (true≢false (sym e))
-
-pub follows : (o : Option Said) (xs ys : List (Option Said)) → not (is_some o) ≡ true → o ≡ first xs → (p : Option Said) → p ≡ first ys → p ≡ first (xs ++ ys)
-follows o xs ys e q p f = f ∙ sym (first_then xs ys (goes_on o xs e q))
 
 pub read_parts : (i : Inputs) (l : Limits) (r : Record) (k : ℕ) (a : Store)
     → read_checks i l r k a ≡ queried i l ++ (lent i (store_fits i l a) ++ recorded i l r k a)
@@ -95,18 +79,3 @@ module _ (q : Query) (l : Limits) (groups ns : List ℕ) (es : List ℤ) (block_
         visited_long = o.visited;
         layouts_long = o.layouts;
       }
-
--- ---- 16 and 17
-module _ (i : Inputs) (l : Limits) (r : Record) (k : ℕ) (a : Store) where
-  pub spoilt : record_fits i r a l ≡ false → some (refusal 16) ≡ first (recorded i l r k a)
-  unfolding recorded
-  spoilt e = sym (first_fails 16 (record_fits i r a l) (ask 17 (ltb k r.layouts) ∷ []) e)
-
-  module _ (e : record_fits i r a l ≡ true) where
-    pub unlisted : ltb k r.layouts ≡ false → some (refusal 17) ≡ first (recorded i l r k a)
-    unfolding recorded
-    unlisted f = sym (first_holds 16 (record_fits i r a l) (ask 17 (ltb k r.layouts) ∷ []) e ∙ first_fails 17 (ltb k r.layouts) [] f)
-
-    pub readable : ltb k r.layouts ≡ true → none ≡ first (recorded i l r k a)
-    unfolding recorded ask first
-    readable f = rw (e, f) refl

@@ -1,36 +1,14 @@
 -- `call_read::check_recorded` meets its contract: 16, then 17.
-use mathlib.Core.Path.{sym, ◌∙◌}
-use borrow.Author.Tests.{le-ltb, lt-ltb}
-use Rattle.base_model.specs.Answers.{said_of, reply_of}
-use Rattle.rule_layouts.specs.Flat.{inputs_of}
-use Rattle.rule_layouts.specs.Inputs.{Inputs}
-use Rattle.rule_calls.specs.Areas.{Store, store_in}
-use Rattle.call_read.proofs.Parts.{spoilt, unlisted, readable}
+use native.Mathlib.Omega.{arith}
+use Rattle.std.proofs.lemmas.Grind.{common_steps}
+use Rattle.base_model.specs.Answers.{ask, first, reply_of, said_of}
+use Rattle.call_read.specs.Parts.{recorded}
 use Rattle.call_read.proofs.check_recorded.Goals as goal
 
-pub returns-then-not-record_fits : goal.returns-then-not-record_fits
-unfolding reply_of said_of
-returns-then-not-record_fits c = λ block_base allow_base points.
-    let a = c.args in
-    let i : Inputs = inputs_of a.query a.groups.now a.numbers.now a.edges.now block_base allow_base in
-    let s : Store = store_in a.lists.now a.visited.now a.layouts.now points in
-    spoilt i a.limits a.rec a.k s
-    (sym (c.record_fits.ensures block_base allow_base points) ∙ c.if-not-record_fits.true)
-
-pub returns-then-rec-k : goal.returns-then-rec-k
-unfolding reply_of said_of
-returns-then-rec-k c = λ block_base allow_base points.
-    let a = c.args in
-    let i : Inputs = inputs_of a.query a.groups.now a.numbers.now a.edges.now block_base allow_base in
-    let s : Store = store_in a.lists.now a.visited.now a.layouts.now points in
-    unlisted i a.limits a.rec a.k s (sym (c.record_fits.ensures block_base allow_base points) ∙ c.if-not-record_fits.false)
-    (le-ltb a.k a.rec.layouts c.if-rec-k.true)
+pub returns-in_err-ask : goal.returns-in_err-ask
+unfolding recorded reply_of said_of ask first
+returns-in_err-ask c = grind (arith, common_steps, c.from_residual.ensures, c.in_err-ask.was, c.ask.ensures, c.record_fits.ensures)
 
 pub returns : goal.returns
-unfolding reply_of
-returns c = λ block_base allow_base points.
-    let a = c.args in
-    let i : Inputs = inputs_of a.query a.groups.now a.numbers.now a.edges.now block_base allow_base in
-    let s : Store = store_in a.lists.now a.visited.now a.layouts.now points in
-    readable i a.limits a.rec a.k s (sym (c.record_fits.ensures block_base allow_base points) ∙ c.if-not-record_fits.false)
-    (lt-ltb a.k a.rec.layouts c.if-rec-k.false)
+unfolding recorded reply_of said_of ask first
+returns c = grind (arith, common_steps, c.in_ok-ask.was, c.ask.ensures, c.ask-2.ensures, c.record_fits.ensures)

@@ -1,44 +1,33 @@
--- `call_read::read` meets its contract: the part and the two numbers are those of the call.
-use mathlib.Core.Path.{sym, ◌∙◌, ap, ap₂}
-use mathlib.Core.List.{List, []}
+-- `call_read::read` meets its contract: the part and the answer are those of the call.
+use mathlib.Core.Path.{sym, ◌∙◌, ap}
+use mathlib.Core.List.{List}
+use mathlib.Core.Option.{none}
 use Prim.Native.Nat.{ℕ}
+use Rattle.std.proofs.lemmas.Result.{err_from_is_err_and}
 use Rattle.base_model.specs.Answers.{reply_of}
-use Rattle.rule_layouts.specs.Flat.{inputs_of}
-use Rattle.rule_layouts.specs.Inputs.{Inputs}
-use Rattle.rule_calls.specs.Areas.{Store, store_in}
-use Rattle.call_read.specs.Told.{number_in, index_in, Told}
-use Rattle.call_read.proofs.Outcome.{tells_refused, tells_accepted, stands_kept}
+use Rattle.rule_calls.specs.Calls.{ReadOut}
+use Rattle.rule_calls.proofs.Reading.{read_refused, read_is}
+use Rattle.set_places.specs.Given.{inputs_in}
+use Rattle.call_lengths.specs.Lent.{kept_in}
+use Rattle.call_checks.proofs.Passed.{done_passes, refused_says}
+use Rattle.call_read.proofs.Outcome.{stands_kept}
 use Rattle.call_read.proofs.read.Goals as goal
 
-abbrev tell : List ℕ → ℕ → ℕ → Told
-tell points answer index = record { points = points; answer = answer; index = index }
-
-pub returns-then-not-accepted : goal.returns-then-not-accepted
-returns-then-not-accepted c =
+pub returns-in_err-read_checks : goal.returns-in_err-read_checks
+unfolding reply_of
+returns-in_err-read_checks c =
     let a = c.args in
-    let i : Inputs = inputs_of a.query a.groups.now a.numbers.now a.edges.now a.block_base.now a.allow_base.now in
-    let s : Store = store_in a.lists.now a.visited.now a.layouts.now a.points.now in
-    let o = reply_of c.read_checks-said.result in
-    let stop = sym c.accepted.ensures ∙ c.if-not-accepted.true in
-    tells_refused i a.limits a.rec a.k s o stop c.read_checks-said.ensures
-    ∙ ap₂ (tell []) (sym c.number_of.ensures) (sym c.index_of.ensures)
+    let p = err_from_is_err_and c.from_residual.result c.from_residual.ensures.1 in
+    rw (p.1, p.2) (read_refused (inputs_in a.given.now) a.limits a.rec a.k (kept_in a.kept.now) _ (sym (sym (refused_says c.read_checks.ensures c.in_err-read_checks.was))))
 
 pub part_of-requires : goal.part_of-requires
 part_of-requires c =
     let a = c.args in
-    let i : Inputs = inputs_of a.query a.groups.now a.numbers.now a.edges.now a.block_base.now a.allow_base.now in
-    let s : Store = store_in a.lists.now a.visited.now a.layouts.now a.points.now in
-    let o = reply_of c.read_checks-said.result in
-    let go = sym c.accepted.ensures ∙ c.if-not-accepted.false in
-    stands_kept i a.limits a.rec a.k s o go c.read_checks-said.ensures
+    stands_kept (inputs_in a.given.now) a.limits a.rec a.k (kept_in a.kept.now) (done_passes c.read_checks.ensures c.in_ok-read_checks.was)
 
 pub returns : goal.returns
+unfolding reply_of
 returns c =
     let a = c.args in
-    let i : Inputs = inputs_of a.query a.groups.now a.numbers.now a.edges.now a.block_base.now a.allow_base.now in
-    let s : Store = store_in a.lists.now a.visited.now a.layouts.now a.points.now in
-    let o = reply_of c.read_checks-said.result in
-    let go = sym c.accepted.ensures ∙ c.if-not-accepted.false in
-    tells_accepted i a.limits a.rec a.k s o go c.read_checks-said.ensures
-    ∙ ap (λ (ps : List ℕ). tell ps (number_in o) (index_in o)) (sym c.part_of.ensures)
-    ∙ ap₂ (tell _) (sym c.number_of.ensures) (sym c.index_of.ensures)
+    read_is (inputs_in a.given.now) a.limits a.rec a.k (kept_in a.kept.now) (done_passes c.read_checks.ensures c.in_ok-read_checks.was)
+    ∙ ap (λ (points : List ℕ). let out : ReadOut = record { answer = none; points = points } in out) (sym c.part_of.ensures)
