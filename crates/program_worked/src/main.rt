@@ -5,7 +5,7 @@ use input_arrival::Arrival;
 use sheet_write::ENOUGH;
 use std::io;
 use std::io::Write;
-use text_numbers::Num;
+use text_numbers::Taken;
 
 // How many bytes all of the sheets have at most.
 const MOST_BYTES: usize = 65536;
@@ -25,18 +25,23 @@ fn refuse_rest<W: Write>(writer: &mut W, all: &[u8]) -> io::Result<usize> {
 
 // Answers the sheet at a place, and gives the place after it.
 fn reply_at<W: Write>(writer: &mut W, all: &[u8], at: usize) -> io::Result<usize> {
-    let Num::Read(n, end) = text_numbers::number(all, at, 65536) else {
+    let Ok(Taken {
+        value,
+        next: end,
+    }) = text_numbers::number(all, at, 65536)
+    else {
         return refuse_rest(writer, all);
     };
-    if all.len() - end <= n as usize {
+    let n = value as usize;
+    if all.len() - end <= n {
         return refuse_rest(writer, all);
     }
     if all[end] != b'\n' {
         return refuse_rest(writer, all);
     }
     let from = end + 1;
-    let to = from + n as usize;
-    write_reply(writer, Arrival::Whole(n as usize), &all[from..to])?;
+    let to = from + n;
+    write_reply(writer, Arrival::Whole(n), &all[from..to])?;
     Ok(to)
 }
 

@@ -4,32 +4,24 @@
 
 ghost use Rattle.std.specs.Prelude.{◌≡◌};
 ghost use Rattle.text_forms.specs.Patterns.{piece, limit_of, is_number};
+ghost use Rattle.text_marks.specs.Limits.{some_limit};
 
-// The largest number of an unsigned field of a pattern, 0 where the byte is none.
-pub fn limit(c: u8) -> u32
-    ensures { result ≡ limit_of c }
+// The largest number of an unsigned field of a pattern, none where the byte is no such field.
+pub fn limit(c: u8) -> Option<u32>
+    ensures { result ≡ some_limit (limit_of c) }
 {
-    if c == b'$' {
-        return 4294967295;
+    match c {
+        b'$' => Some(4294967295),
+        b'%' => Some(65535),
+        b'&' => Some(255),
+        b'!' => Some(1),
+        _ => None,
     }
-    if c == b'%' {
-        return 65535;
-    }
-    if c == b'&' {
-        return 255;
-    }
-    if c == b'!' {
-        return 1;
-    }
-    0
 }
 
 // Whether a byte of a pattern is a number.
 pub fn is_number(c: u8) -> bool
     ensures { result ≡ is_number (piece c) }
 {
-    if c == b'#' {
-        return true;
-    }
-    limit(c) != 0
+    c == b'#' || limit(c).is_some()
 }

@@ -15,25 +15,18 @@ const MOST_SIGNED: u32 = 2147483647;
 // The largest number after a minus sign.
 const LEAST: u32 = MOST_SIGNED + 1;
 
-// The answer of `number`: its value and the place after it, the place at fault, or that the place given is beyond the text.
-#[derive(Clone, Copy)]
-pub enum Num {
-    Read(u32, usize),
+// A number that was read: its value and the place after it.
+#[derive(Clone, Copy, PartialEq, Eq, Debug)]
+pub struct Taken {
+    pub value: u32,
+    pub next: usize,
+}
+
+// Why `number` reads none: the place at fault, or that the place given is beyond the text.
+#[derive(Clone, Copy, PartialEq, Eq, Debug)]
+pub enum Fault {
     Wrong(usize),
     Beyond,
-}
-
-#[derive(Clone, Copy)]
-struct Taken {
-    value: u32,
-    next: usize,
-}
-
-// The answer at a place inside the text.
-#[derive(Clone, Copy)]
-pub enum Step {
-    Read(u32, usize),
-    Wrong(usize),
 }
 
 // The longest number up to max that stands where a digit up to max stands.
@@ -44,30 +37,17 @@ fn decimal_at(s: &[u8], at: usize, max: u32) -> Taken
     requires at_bound_2 { get_or s.now at 0 - 48 ≤ max }
     ensures { GotAt (number_form max) s.now at result.value result.next }
 {
-    let top = max as u64;
-    let mut v = (s[at] - b'0') as u64;
-    let mut i = at + 1;
-    while i < s.len() {
+    let top = u64::from(max);
+    let mut v = u64::from(s[at] - b'0');
+    for i in at + 1..s.len() {
         let c = s[i];
-        if c < b'0' {
+        if v == 0 || !c.is_ascii_digit() {
             return Taken {
                 value: v as u32,
                 next: i,
             };
         }
-        if b'9' < c {
-            return Taken {
-                value: v as u32,
-                next: i,
-            };
-        }
-        if v == 0 {
-            return Taken {
-                value: v as u32,
-                next: i,
-            };
-        }
-        let w = v * 10 + (c - b'0') as u64;
+        let w = v * 10 + u64::from(c - b'0');
         if top < w {
             return Taken {
                 value: v as u32,
@@ -75,82 +55,64 @@ fn decimal_at(s: &[u8], at: usize, max: u32) -> Taken
             };
         }
         v = w;
-        i = i + 1;
     }
     Taken {
         value: v as u32,
-        next: i,
+        next: s.len(),
     }
 }
 
-fn number_at(s: &[u8], at: usize, max: u32) -> Step
+// The number up to max at a place inside the text, or the place at fault.
+fn number_at(s: &[u8], at: usize, max: u32) -> Result<Taken, usize>
     requires { at ≤ length s.now }
     ensures { ReadAs (number_form max) s.now at (step_of result) }
 {
-    if at == s.len() {
-        return Step::Wrong(at);
+    if at == s.len() || !s[at].is_ascii_digit() || max < u32::from(s[at] - b'0') {
+        return Err(at);
     }
-    if s[at] < b'0' {
-        return Step::Wrong(at);
-    }
-    if b'9' < s[at] {
-        return Step::Wrong(at);
-    }
-    if max < (s[at] - b'0') as u32 {
-        return Step::Wrong(at);
-    }
-    let r = decimal_at(s, at, max);
-    Step::Read(r.value, r.next)
+    Ok(decimal_at(s, at, max))
 }
 
-fn integer_at(s: &[u8], at: usize) -> Step
+// The signed number at a place inside the text, or the place at fault.
+fn integer_at(s: &[u8], at: usize) -> Result<Taken, usize>
     requires { at ≤ length s.now }
     ensures { ReadAs integer_form s.now at (step_of result) }
 {
     if at == s.len() {
-        return Step::Wrong(at);
+        return Err(at);
     }
     if s[at] != b'-' {
         return number_at(s, at, MOST_SIGNED);
     }
     let b = at + 1;
-    if b == s.len() {
-        return Step::Wrong(b);
-    }
-    if s[b] < b'1' {
-        return Step::Wrong(b);
-    }
-    if b'9' < s[b] {
-        return Step::Wrong(b);
+    if b == s.len() || s[b] == b'0' || !s[b].is_ascii_digit() {
+        return Err(b);
     }
     let r = decimal_at(s, b, LEAST);
-    if r.value == 0 {
-        return Step::Wrong(b);
-    }
-    Step::Read(WORD - (r.value - 1), r.next)
+    Ok(Taken {
+        value: WORD - (r.value - 1),
+        next: r.next,
+    })
 }
 
 // Reads a number up to max.
-pub fn number(s: &[u8], at: usize, max: u32) -> Num
+pub fn number(s: &[u8], at: usize, max: u32) -> Result<Taken, Fault>
     ensures { NumberRead (number_form max) s.now at result }
 {
     if s.len() < at {
-        return Num::Beyond;
+        return Err(Fault::Beyond);
     }
-    match number_at(s, at, max) {
-        Step::Read(v, n) => Num::Read(v, n),
-        Step::Wrong(p) => Num::Wrong(p),
-    }
+    number_at(s, at, max).map_err(Fault::Wrong)
 }
 
-// Reads a number of a pattern, at a place inside the text.
-pub fn field_at(s: &[u8], at: usize, c: u8) -> Step
+// Reads a number of a pattern, at a place inside the text, or answers the place at fault.
+pub fn field_at(s: &[u8], at: usize, c: u8) -> Result<Taken, usize>
     requires at_in_bounds { at ≤ length s.now }
     requires c_value { is_number (piece c) ≡ true }
     ensures { ReadAs (form_of (piece c)) s.now at (step_of result) }
 {
-    if c == b'#' {
-        return integer_at(s, at);
+    match text_marks::limit(c) {
+        Some(max) => number_at(s, at, max),
+        None => integer_at(s, at),
     }
-    number_at(s, at, text_marks::limit(c))
 }

@@ -14,12 +14,12 @@ pub enum Unwritten {
     Values,
 }
 
-// Whether a value is of a number of a pattern.
+// Whether a value is of a number of a pattern; any is of a signed one, which has no limit.
 fn in_field(c: u8, x: u32) -> bool
     requires { is_number (piece c) ≡ true }
     ensures { Decides ((form_of (piece c)).fits x) result }
 {
-    c == b'#' || x <= text_marks::limit(c)
+    text_marks::limit(c).is_none_or(|most| x <= most)
 }
 
 // Whether the values are those of a line, all of them.
