@@ -1,18 +1,40 @@
 -- Digits run together: they are read as far as they go. Assumes nothing.
 use mathlib.Core.Path.{◌≡◌, refl, sym, ap, ◌∙◌, subst}
-use mathlib.Core.List.{List, [], ◌∷◌, ◌++◌, map}
+use mathlib.Core.List.{List, [], ◌∷◌, ◌++◌, append_assoc, map}
 use Prim.Native.Nat.{ℕ, zero, suc, ◌+◌, ◌-◌, ◌≤◌, ◌<◌}
 use native.Mathlib.Omega.{arith}
-use lib.ListN.{length, take, drop, get_or, length-drop, length-map}
-use lib.Seq.{get_or-drop, get_or-take, length-take-le}
+use native.Mathlib.Numerals.{add-one}
+use Rattle.std.proofs.lemmas.List.{map-append, take_all}
+use Rattle.text_forms.proofs.Walks.{next_piece}
+use lib.ListN.{length, take, drop, get_or, set, length-drop, length-map}
+use mathlib.Core.Bool.{true, false}
+use Rattle.std.proofs.Common.{Ok, Err}
+use Rattle.std.proofs.lemmas.Bool.Decides.{nat_tests}
+use Rattle.std.proofs.lemmas.List.Folds.{length-prefix_len}
+use Rattle.std.proofs.lemmas.List.Sums.{prefix_len-le-length, prefix_len_passes, prefix_len_stops}
+use Rattle.std.specs.Char.{is_ascii_digit}
+use Rattle.std.specs.List.{prefix_len, take_while}
+use lib.Seq.{set_at, take-suc, get_or-drop, get_or-take, length-take-le}
 use Rattle.text_forms.specs.Forms.{All, digits}
 use Rattle.text_forms.specs.Reading.{Past, Stop, Got, Bad, GotAt, BadAt, from}
 use Rattle.text_digits.specs.Answers.{DigitsRead}
-use Rattle.text_digits.specs.Inner.{DigitRun, cells}
-use Rattle.text_digits.specs.declared.Row.TheVariants as row
+use Rattle.text_digits.specs.Inner.{Low}
+use Rattle.text_digits.specs.declared.RowError.TheVariants as error
 use Rattle.text_forms.proofs.Decimals.{head_of}
 use Rattle.text_forms.proofs.Digits.{spelled, same_run}
 use Rattle.text_forms.proofs.Places.{from_long, bad_here, stop_at, stop_end, split_from}
+
+-- digits stand from `at` up to `end`, and no further one
+pub record DigitRun (s : List ℕ) (at end : ℕ) : Type 0 where
+  pub after : at ≤ end
+  pub inside : end ≤ length s
+  pub low : (k : ℕ) → at ≤ k → k < end → 48 ≤ get_or s k 0
+  pub high : (k : ℕ) → at ≤ k → k < end → get_or s k 0 ≤ 57
+  pub stops : end < length s → 48 ≤ get_or s end 0 → 57 < get_or s end 0
+
+-- the values of n digits
+abbrev pub cells : List ℕ → ℕ → ℕ → List ℕ
+cells s at n = map (λ c. c - 48) (take n (drop at s))
 
 stop_past : (r y : List ℕ) → 0 < length r → Stop r → Stop (take 1 r ++ y)
 stop_past [] y h s = absurd (omega arith)
@@ -90,52 +112,74 @@ run_empty s at w =
     bad_here digits s at w.inside (digits_bad (from at s) (from_long s at)
     (subst (λ (k : ℕ). Stop (from k s)) e (stopped s at 0 (subst (λ (k : ℕ). DigitRun s at k) (sym e) w))))
 
--- ---- the loop that finds the end
-pub record Finding (s : List ℕ) (at i : ℕ) : Type 0 where
-  pub after : at ≤ i
-  pub inside : i ≤ length s
-  pub low : (k : ℕ) → at ≤ k → k < i → 48 ≤ get_or s k 0
-  pub high : (k : ℕ) → at ≤ k → k < i → get_or s k 0 ≤ 57
+-- ---- the digits that stand first
+in_digits : (c : ℕ) → is_ascii_digit c ≡ true → (48 ≤ c) × (c ≤ 57)
+in_digits c e = grind (arith, nat_tests)
 
-pub finding_start : (s : List ℕ) (at : ℕ) → at ≤ length s → Finding s at at
-finding_start s at h = record { after = omega arith; inside = h; low = λ k a b. absurd (omega arith); high = λ k a b. absurd (omega arith) }
+no_digit : (c : ℕ) → is_ascii_digit c ≡ false → 48 ≤ c → 57 < c
+no_digit c e h = grind (arith, nat_tests)
 
-pub finding_more : (s : List ℕ) (at i : ℕ) → Finding s at i → i < length s → 48 ≤ get_or s i 0 → get_or s i 0 ≤ 57 → Finding s at (i + 1)
-finding_more s at i w h lo hi = record {
-  after = (let a : at ≤ i = w.after in omega arith);
-  inside = omega arith;
-  low = λ k a b. or (λ (c : ℕ). 48 ≤ c) k b (w.low k a) lo;
-  high = λ k a b. or (λ (c : ℕ). c ≤ 57) k b (w.high k a) hi;
-}
-  where
-    or : (P : ℕ → Type 0) (k : ℕ) → k < i + 1 → (k < i → P (get_or s k 0)) → P (get_or s i 0) → P (get_or s k 0)
-    or P k b f p = go (i - k) refl
-      where
-        go : (d : ℕ) → i - k ≡ d → P (get_or s k 0)
-        go zero e = let z : i ≡ k = omega arith in subst (λ (j : ℕ). P (get_or s j 0)) z p
-        go (suc d) e = f (omega arith)
+-- the text from a place on, as the code cuts it
+abbrev tail : List ℕ → ℕ → List ℕ
+tail s at = take (length s - at) (drop at s)
 
-pub finding_stops : (s : List ℕ) (at i : ℕ) → Finding s at i → (i < length s → 48 ≤ get_or s i 0 → 57 < get_or s i 0) → DigitRun s at i
-finding_stops s at i w h = record { after = w.after; inside = w.inside; low = w.low; high = w.high; stops = h }
+whole : (s : List ℕ) (at : ℕ) → tail s at ≡ drop at s
+whole s at = take_all (length s - at) (drop at s) (omega (arith, length-drop at s))
+
+pub count_run : (s : List ℕ) (at n : ℕ) → at ≤ length s → n ≡ length (take_while is_ascii_digit (tail s at)) → DigitRun s at (at + n)
+count_run s at n h e =
+    let t : List ℕ = drop at s in
+    let m : n ≡ prefix_len is_ascii_digit t = e ∙ ap (λ (l : List ℕ). length (take_while is_ascii_digit l)) (whole s at) ∙ length-prefix_len is_ascii_digit t in
+    let long : length t ≡ length s - at = length-drop at s in
+    let few : n ≤ length t = rw m (prefix_len-le-length is_ascii_digit t) in
+    let digit = λ (k : ℕ) (a : at ≤ k) (b : k < at + n).
+    let here : at + (k - at) ≡ k = omega arith in
+    let k1 : k - at < prefix_len is_ascii_digit t = omega arith in
+    in_digits (get_or s k 0) (ap (λ (i : ℕ). is_ascii_digit (get_or s i 0)) (sym here) ∙ ap is_ascii_digit (sym (get_or-drop at s (k - at) 0)) ∙ prefix_len_passes is_ascii_digit t (k - at) 0 k1) in
+    record {
+      after = omega arith;
+      inside = omega arith;
+      low = λ k a b. (digit k a b).0;
+      high = λ k a b. (digit k a b).1;
+      stops = λ b.
+          let k1 : prefix_len is_ascii_digit t < length t = omega arith in
+          no_digit (get_or s (at + n) 0) (ap is_ascii_digit (sym (get_or-drop at s n 0) ∙ ap (λ (i : ℕ). get_or t i 0) m) ∙ prefix_len_stops is_ascii_digit t 0 k1);
+    }
 
 -- ---- the answers of `digits`
-module _ (s : List ℕ) (at end : ℕ) (w : DigitRun s at end) where
-  upto : (at + (end - at) ≡ end)
-  upto = let a : at ≤ end = w.after in omega arith
+module _ (s : List ℕ) (at n : ℕ) (w : DigitRun s at (at + n)) where
+  pub run_low : Low (take n (tail s at))
+  run_low = subst (λ (l : List ℕ). Low (take n l)) (sym (whole s at)) (record { low = λ k h. subst (λ (c : ℕ). 48 ≤ c) (sym (entry s at n w k h)) (w.low (at + k) (omega arith) (omega (arith, long s at n w))) })
 
-  pub cells_run : DigitRun s at (at + (end - at))
-  cells_run = subst (λ (k : ℕ). DigitRun s at k) (sym upto) w
+  pub digits_wrong : (before : List ℕ) → n ≡ 0 → DigitsRead s at before before (Err (error.Wrong at))
+  digits_wrong before e = record { answer = record { bad = run_empty s at (let z : at + n ≡ at = omega arith in subst (λ (k : ℕ). DigitRun s at k) z w); area = refl } }
 
-  reads : (end ≡ at → ⊥) → GotAt digits s at (cells s at (end - at)) end
-  reads ne = let a : at ≤ end = w.after in
-      subst (λ (k : ℕ). GotAt digits s at (cells s at (end - at)) k) upto (run_reads s at (end - at) cells_run (omega (arith, ne)))
+  pub digits_full : (before : List ℕ) → (n ≡ 0 → ⊥) → length before < n → DigitsRead s at before before (Err error.Full)
+  digits_full before ne h = record {
+    answer = record { values = cells s at n; next = at + n; got = run_reads s at n w (omega (arith, ne)); short = omega (arith, cells_long s at n w); area = refl };
+  }
 
-  pub digits_wrong : (before : List ℕ) → end ≡ at → DigitsRead s at before before (row.Wrong at)
-  digits_wrong before e = record { answer = record { bad = run_empty s at (subst (λ (k : ℕ). DigitRun s at k) e w); area = refl } }
+  pub digits_read : (before : List ℕ) → (n ≡ 0 → ⊥) → n ≤ length before → (out : List ℕ) → out ≡ map (λ c. c - 48) (take n (tail s at)) ++ drop (length (take n (tail s at))) before
+      → DigitsRead s at before out (Ok (record { count = n; next = at + n }))
+  digits_read before ne h out e = record {
+    answer = record {
+      values = cells s at n;
+      got = run_reads s at n w (omega (arith, ne));
+      counted = sym (cells_long s at n w);
+      room = h;
+      area = e ∙ ap (λ (l : List ℕ). map (λ c. c - 48) (take n l) ++ drop (length (take n l)) before) (whole s at) ∙ ap (λ (k : ℕ). cells s at n ++ drop k before) (long s at n w);
+    };
+  }
 
-  pub digits_full : (before : List ℕ) → (end ≡ at → ⊥) → length before < end - at → DigitsRead s at before before row.Full
-  digits_full before ne h = record { answer = record { values = cells s at (end - at); next = end; got = reads ne; short = omega (arith, cells_long s at (end - at) cells_run); area = refl } }
-
-  pub digits_read : (before : List ℕ) → (end ≡ at → ⊥) → end - at ≤ length before → (out : List ℕ) → out ≡ cells s at (end - at)
-      ++ drop (end - at) before → DigitsRead s at before out (row.Read (end - at) end)
-  digits_read before ne h out e = record { answer = record { values = cells s at (end - at); got = reads ne; counted = sym (cells_long s at (end - at) cells_run); room = h; area = e } }
+-- ---- the values stored
+pub store_next : (l before out : List ℕ) (k : ℕ) → k < length l → length l ≤ length before → out ≡ map (λ c. c - 48) (take k l) ++ drop k before
+    → set out k (get_or l k 0 - 48) ≡ map (λ c. c - 48) (take (k + 1) l) ++ drop (k + 1) before
+store_next l before out k h r e =
+    let done : List ℕ = map (λ c. c - 48) (take k l) in
+    let v : ℕ = get_or l k 0 - 48 in
+    let few : length done ≡ k = length-map (take k l) (λ c. c - 48) ∙ length-take-le k l (omega arith) in
+    let next : map (λ c. c - 48) (take (k + 1) l) ≡ done ++ (v ∷ []) = ap (λ (n : ℕ). map (λ c. c - 48) (take n l)) (add-one k) ∙ ap (map (λ c. c - 48)) (take-suc l k 0 h) ∙ map-append (λ c. c - 48) (take k l) (get_or l k 0 ∷ []) in
+    ap (λ (x : List ℕ). set x k v) (e ∙ ap (λ (x : List ℕ). done ++ x) (next_piece before k (omega arith)))
+    ∙ set_at done (get_or before k 0) (drop (k + 1) before) v k few
+    ∙ sym (append_assoc done (v ∷ []) (drop (k + 1) before))
+    ∙ ap (λ (x : List ℕ). x ++ drop (k + 1) before) (sym next)

@@ -1,70 +1,62 @@
 // Digits run together, read from a text. Apart from the lines, which read no digit by itself.
 #![tactic(auto)]
 
-ghost use Rattle.std.specs.Prelude.{◌≡◌, ◌++◌, ◌+◌, ◌≤◌, length, drop};
+ghost use Rattle.std.specs.Prelude.{◌≡◌, ◌++◌, ◌-◌, ◌≤◌, length, drop, map, take_while};
+ghost use Rattle.std.specs.Char.{is_ascii_digit};
 ghost use Rattle.text_digits.specs.Answers.{DigitsRead};
-ghost use Rattle.text_digits.specs.Inner.{DigitRun, cells};
+ghost use Rattle.text_digits.specs.Inner.{Low};
 
-// The answer of `digits`.
-#[derive(Clone, Copy)]
-pub enum Row {
-    Read { count: usize, next: usize },
+// Digits that were read: how many, and the place after them.
+#[derive(Clone, Copy, PartialEq, Eq, Debug)]
+pub struct Row {
+    pub count: usize,
+    pub next: usize,
+}
+
+// Why `digits` reads none: the place at fault, more digits than the area holds, or a place beyond the text.
+#[derive(Clone, Copy, PartialEq, Eq, Debug)]
+pub enum RowError {
     Wrong(usize),
     Full,
     Beyond,
 }
 
-// The place after the digits that stand there.
-fn digits_end(s: &[u8], at: usize) -> usize
-    requires { at ≤ length s.now }
-    ensures { DigitRun s.now at result }
+// How many digits stand first in a text.
+fn digit_count(text: &[u8]) -> usize
+    ensures { result ≡ length (take_while is_ascii_digit text.now) }
 {
-    let mut i = at;
-    while i < s.len() {
-        let c = s[i];
-        if c < b'0' {
-            return i;
-        }
-        if b'9' < c {
-            return i;
-        }
-        i = i + 1;
-    }
-    i
+    text.iter().take_while(|c| c.is_ascii_digit()).count()
 }
 
-// Puts the values of n digits to the front of out.
-fn store_digits(s: &[u8], at: usize, n: usize, out: &mut [u8])
-    requires digit_run { DigitRun s.now at (at + n) }
-    requires n_in_bounds { n ≤ length out.old }
-    ensures { out.new ≡ cells s.now at n ++ drop n out.old }
+// Puts the values of digits to the front of out.
+fn store_digits(digits: &[u8], out: &mut [u8])
+    requires not_below { Low digits.now }
+    requires room { length digits.now ≤ length out.old }
+    ensures { out.new ≡ map (λ c. c - 48) digits.now ++ drop (length digits.now) out.old }
 {
-    let mut k = 0;
-    while k < n {
-        let c = s[at + k];
+    for (k, &c) in digits.iter().enumerate() {
         out[k] = c - b'0';
-        k = k + 1;
     }
 }
 
 // Reads digits run together, one or more: the value of each goes to an entry of its own.
-pub fn digits(s: &[u8], at: usize, out: &mut [u8]) -> Row
+pub fn digits(s: &[u8], at: usize, out: &mut [u8]) -> Result<Row, RowError>
     ensures { DigitsRead s.now at out.old out.new result }
 {
     if s.len() < at {
-        return Row::Beyond;
+        return Err(RowError::Beyond);
     }
-    let end = digits_end(s, at);
-    if end == at {
-        return Row::Wrong(at);
+    let text = &s[at..];
+    let n = digit_count(text);
+    if n == 0 {
+        return Err(RowError::Wrong(at));
     }
-    let n = end - at;
     if out.len() < n {
-        return Row::Full;
+        return Err(RowError::Full);
     }
-    store_digits(s, at, n, out);
-    Row::Read {
+    store_digits(&text[..n], out);
+    Ok(Row {
         count: n,
-        next: end,
-    }
+        next: at + n,
+    })
 }
