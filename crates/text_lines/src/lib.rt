@@ -3,44 +3,27 @@
 #![tactic(auto)]
 
 ghost use Rattle.std.specs.Prelude.{◌≡◌, true, ◌≤◌, length};
-ghost use Rattle.text_forms.specs.Patterns.{good, fields, repeats};
+ghost use Rattle.text_forms.specs.Patterns.{piece, good, fields, repeats, opens_by};
 ghost use Rattle.text_lines.specs.Answers.{PassRead, Stored};
+ghost use Rattle.text_lines.specs.Inner.{StoredIn};
 
-// The place after a line that stands there, or the place at fault.
-#[derive(Clone, Copy)]
-pub enum Pass {
-    To(usize),
-    Wrong(usize),
+// Whether a byte of a pattern may follow a number: no digit and no number.
+fn opens(c: u8) -> bool
+    ensures { result ≡ opens_by (piece c) }
+{
+    !text_marks::is_number(c) && !c.is_ascii_digit()
 }
 
 // Whether no number of the pattern is followed by a digit or a number.
 pub fn readable(pattern: &[u8]) -> bool
     ensures { result ≡ good pattern.now }
 {
-    let mut after = false;
-    let mut j = 0;
-    while j < pattern.len() {
-        let c = pattern[j];
-        j = j + 1;
-        if text_marks::is_number(c) {
-            if after {
-                return false;
-            }
-            after = true;
-            continue;
+    let mut after_number = false;
+    for &c in pattern {
+        if after_number && !opens(c) {
+            return false;
         }
-        if !after {
-            continue;
-        }
-        if c < b'0' {
-            after = false;
-            continue;
-        }
-        if b'9' < c {
-            after = false;
-            continue;
-        }
-        return false;
+        after_number = text_marks::is_number(c);
     }
     true
 }
@@ -49,70 +32,56 @@ pub fn readable(pattern: &[u8]) -> bool
 pub fn can_repeat(pattern: &[u8]) -> bool
     ensures { result ≡ repeats pattern.now }
 {
-    if pattern.len() == 0 {
-        return false;
+    match pattern {
+        [c, ..] => opens(*c) && readable(pattern),
+        [] => false,
     }
-    let c = pattern[0];
-    if text_marks::is_number(c) {
-        return false;
-    }
-    if c < b'0' {
-        return readable(pattern);
-    }
-    if b'9' < c {
-        return readable(pattern);
-    }
-    false
 }
 
 // How many numbers the pattern has.
 pub fn width(pattern: &[u8]) -> usize
     ensures { result ≡ fields pattern.now }
 {
-    let mut n = 0;
-    let mut j = 0;
-    while j < pattern.len() {
-        let c = pattern[j];
-        j = j + 1;
-        if text_marks::is_number(c) {
-            n = n + 1;
-            continue;
-        }
-    }
-    n
+    pattern
+        .iter()
+        .filter(|&&c| text_marks::is_number(c))
+        .count()
 }
 
-// The place after a line that stands there.
-pub fn line_end(s: &[u8], at: usize, pattern: &[u8]) -> Pass
+// The place after a line that stands there, or the place at fault. The line's numbers go to the front of out, as many as it has room for.
+fn walk(s: &[u8], at: usize, pattern: &[u8], out: &mut [u32]) -> Result<usize, usize>
+    requires at_in_bounds { at ≤ length s.now }
+    requires pattern_value { good pattern.now ≡ true }
+    ensures passed { PassRead pattern.now s.now at result }
+    ensures stored { StoredIn pattern.now s.now at out.old out.new }
+{
+    let mut i = at;
+    let mut k = 0;
+    for &c in pattern {
+        if text_marks::is_number(c) {
+            let number = text_numbers::field_at(s, i, c)?;
+            if k < out.len() {
+                out[k] = number.value;
+                k += 1;
+            }
+            i = number.next;
+        } else {
+            if i == s.len() || s[i] != c {
+                return Err(i);
+            }
+            i += 1;
+        }
+    }
+    Ok(i)
+}
+
+// The place after a line that stands there, or the place at fault.
+pub fn line_end(s: &[u8], at: usize, pattern: &[u8]) -> Result<usize, usize>
     requires at_in_bounds { at ≤ length s.now }
     requires pattern_value { good pattern.now ≡ true }
     ensures { PassRead pattern.now s.now at result }
 {
-    let mut i = at;
-    let mut j = 0;
-    while j < pattern.len() {
-        let c = pattern[j];
-        j = j + 1;
-        if text_marks::is_number(c) {
-            match text_numbers::field_at(s, i, c) {
-                text_numbers::Step::Read(_, n) => {
-                    i = n;
-                    continue;
-                }
-                text_numbers::Step::Wrong(p) => {
-                    return Pass::Wrong(p);
-                }
-            }
-        }
-        if i == s.len() {
-            return Pass::Wrong(i);
-        }
-        if s[i] != c {
-            return Pass::Wrong(i);
-        }
-        i = i + 1;
-    }
-    Pass::To(i)
+    walk(s, at, pattern, &mut [])
 }
 
 // Puts the numbers of a line that stands there to the front of out.
@@ -122,31 +91,5 @@ pub fn store(s: &[u8], at: usize, pattern: &[u8], out: &mut [u32])
     requires pattern_in_bounds { fields pattern.now ≤ length out.old }
     ensures { Stored pattern.now s.now at out.old out.new }
 {
-    let mut i = at;
-    let mut j = 0;
-    let mut k = 0;
-    while j < pattern.len() {
-        let c = pattern[j];
-        j = j + 1;
-        if text_marks::is_number(c) {
-            match text_numbers::field_at(s, i, c) {
-                text_numbers::Step::Read(v, n) => {
-                    out[k] = v;
-                    k = k + 1;
-                    i = n;
-                    continue;
-                }
-                text_numbers::Step::Wrong(_) => {
-                    return;
-                }
-            }
-        }
-        if i == s.len() {
-            return;
-        }
-        if s[i] != c {
-            return;
-        }
-        i = i + 1;
-    }
+    let _ = walk(s, at, pattern, out);
 }

@@ -1,20 +1,15 @@
--- `can_repeat`, test by test: the first byte tells.
-use mathlib.Core.Path.{sym, ◌∙◌}
+-- `can_repeat`: the first byte tells.
 use native.Mathlib.Omega.{arith}
-use Rattle.text_forms.proofs.Walks.{repeat_none, repeat_number, repeat_digit, repeat_low, repeat_high}
+use Rattle.std.proofs.Common.{sym, ◌∙◌}
+use Rattle.text_forms.proofs.Walks.{repeat_none}
+use Rattle.text_lines.proofs.Pattern.{repeat_yes, repeat_no}
 use Rattle.text_lines.proofs.can_repeat.Goals as goal
 
-pub returns-then-pattern-eq0 : goal.returns-then-pattern-eq0
-returns-then-pattern-eq0 c = repeat_none _ c.if-pattern-eq0.true
+pub returns-in-empty : goal.returns-in-empty
+returns-in-empty c = repeat_none _ (omega arith)
 
-pub returns-then-is_number : goal.returns-then-is_number
-returns-then-is_number c = repeat_number _ (omega arith) (sym c.is_number.ensures ∙ c.if-is_number.true)
+pub returns-then-opens : goal.returns-then-opens
+returns-then-opens c = c.readable.ensures ∙ repeat_yes _ (omega arith) (sym c.opens.ensures ∙ c.if-opens.true)
 
-pub returns-then-c-lt48 : goal.returns-then-c-lt48
-returns-then-c-lt48 c = c.readable.ensures ∙ repeat_low _ (omega arith) (sym c.is_number.ensures ∙ c.if-is_number.false) (omega arith)
-
-pub returns-then-c-gt57 : goal.returns-then-c-gt57
-returns-then-c-gt57 c = c.readable-then-c-gt57.ensures ∙ repeat_high _ (omega arith) (sym c.is_number.ensures ∙ c.if-is_number.false) (omega arith)
-
-pub returns : goal.returns
-returns c = repeat_digit _ (omega arith) (sym c.is_number.ensures ∙ c.if-is_number.false) (omega arith) (omega arith)
+pub returns-else-opens : goal.returns-else-opens
+returns-else-opens c = c.if-opens.false ∙ repeat_no _ (omega arith) (sym c.opens.ensures ∙ c.if-opens.false)

@@ -1,11 +1,6 @@
--- `readable`: whether the rest of the pattern, after a number or not, can be read is whether the whole can. The measure is what is left of the pattern.
-use Prim.Native.Nat.{◌-◌}
-use lib.ListN.{length}
+-- `readable`: what the rest of the pattern says, after a number or not, is what the whole says.
 use Rattle.text_forms.proofs.Walks.{Checking}
 use Rattle.text_lines.proofs.readable.Given as goal
 
-abbrev pub invariant-loop-j : goal.invariant-loop-j
-invariant-loop-j l = Checking l.pattern l.after l.j
-
-abbrev pub decreases-loop-j : goal.decreases-loop-j
-decreases-loop-j l = length l.pattern - l.j
+abbrev pub invariant-loop-c : goal.invariant-loop-c
+invariant-loop-c l = Checking l.pattern l.after_number l.c-index

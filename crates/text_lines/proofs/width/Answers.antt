@@ -1,17 +1,9 @@
--- The answers to the goals of `text_lines::width`.
-use mathlib.Core.Path.{sym, ◌∙◌}
-use native.Mathlib.Omega.{arith}
-use Rattle.text_forms.proofs.Walks.{count_start, count_number, count_byte, count_done}
+-- `width`: the numbers of a pattern, counted.
+use Rattle.std.proofs.Common.{◌≡◌, rules, sym, ◌∙◌}
+use Rattle.std.specs.List.{count_by}
+use Rattle.text_forms.specs.Patterns.{piece, is_number}
+use Rattle.text_lines.proofs.Pattern.{count_fields}
 use Rattle.text_lines.proofs.width.Goals as goal
 
-pub loop-j-init : goal.loop-j-init
-loop-j-init c = count_start _
-
-pub loop-j-preserved-then-is_number : goal.loop-j-preserved-then-is_number
-loop-j-preserved-then-is_number c = count_number _ _ (omega arith) _ c.loop-j.invariant (sym c.is_number.ensures ∙ c.if-is_number.true)
-
-pub loop-j-preserved : goal.loop-j-preserved
-loop-j-preserved c = count_byte _ _ (omega arith) _ c.loop-j.invariant (sym c.is_number.ensures ∙ c.if-is_number.false)
-
 pub returns : goal.returns
-returns c = count_done _ _ _ c.loop-j.invariant (omega arith)
+returns c = let e : c.count.result ≡ count_by (λ n. is_number (piece n)) c.args.pattern.now = search rules in e ∙ sym (count_fields c.args.pattern.now)
