@@ -1,11 +1,12 @@
 -- The loop of `rows`, and the answers of `line` and `optional`. Assumes nothing.
-use mathlib.Core.Path.{◌≡◌, refl, sym, ap, ap₂, ◌∙◌, subst}
+use mathlib.Core.Path.{◌≡◌, refl, sym, ap, ap₂, ◌∙◌}
 use mathlib.Core.Bool.{true}
 use mathlib.Core.List.{List, [], ◌∷◌, ◌++◌, append-nil}
 use Prim.Native.Nat.{ℕ, ◌+◌, ◌-◌, ◌≤◌, ◌<◌}
 use native.Mathlib.Omega.{arith}
+use Rattle.std.proofs.Common.{Ok, Err}
 use lib.ListN.{length, take, drop, length-append, length-drop}
-use lib.Seq.{length-take-le, drop-drop}
+use lib.Seq.{drop-drop}
 use Rattle.base_laws.specs.Fill.{over}
 use Rattle.base_laws.specs.Lists.{flat}
 use Rattle.base_laws.proofs.Blocks.{flat_append}
@@ -15,11 +16,8 @@ use Rattle.text_forms.specs.Reading.{Series, none, absent, present}
 use Rattle.text_forms.proofs.Pieces.{line_count}
 use Rattle.text_forms.proofs.Runs.{chain_last, goes_on, repeats_solid}
 use Rattle.text_lines.specs.Answers.{PassRead, LinePass, Stored}
-use Rattle.text_lines.specs.declared.Pass.{Pass}
-use Rattle.text_lines.specs.declared.Pass.TheVariants as pass
-use Rattle.text_read.specs.Answers.{RowsRead, OptionalRead, LineRead, LineReady}
-use Rattle.text_read.specs.declared.Several.TheVariants as several
-use Rattle.text_read.specs.declared.Next.TheVariants as next
+use Rattle.text_read.specs.Answers.{OptionalRead}
+use Rattle.text_read.specs.declared.RowsError.TheVariants as rows_error
 
 -- ---- the loop of rows
 flat_last : (l : List (List ℕ)) (a : List ℕ) → flat (l ++ (a ∷ [])) ≡ flat l ++ a
@@ -48,22 +46,9 @@ module _ (pattern s : List ℕ) (at : ℕ) (before out : List ℕ) (i n base : �
       omega (arith, ap length w.area, length-append (flat w.rows) (drop base before), length-drop base before)
 
   module _ (v : ℕ) (e : v ≡ fields pattern) (ok : repeats pattern ≡ true) where
-    pub going_wrong : (r : Pass) (p : ℕ) → r ≡ pass.Wrong p → PassRead pattern s i r → RowsRead pattern s at before out (several.Read n base i p)
-    going_wrong r p q h = record {
-      answer = record {
-        readable = ok;
-        rows = w.rows;
-        read = record { chain = w.chain; stops = (subst (λ (z : Pass). PassRead pattern s i z) q h).answer };
-        counted = w.counted;
-        flat_used = w.used;
-        room = w.room;
-        area = w.area;
-      };
-    }
-
-    module _ (r : Pass) (m : ℕ) (q : r ≡ pass.To m) (h : PassRead pattern s i r) where
+    module _ (m : ℕ) (h : PassRead pattern s i (Ok m)) where
       passed : LinePass pattern s i m
-      passed = (subst (λ (z : Pass). PassRead pattern s i z) q h).answer
+      passed = h.answer
 
       abbrev row : List ℕ
       row = passed.values
@@ -77,29 +62,7 @@ module _ (pattern s : List ℕ) (at : ℕ) (before out : List ℕ) (i n base : �
       pub going_inside : m ≤ length s
       going_inside = passed.got.inside
 
-      pub going_full : length out - base < v → RowsRead pattern s at before out several.Full
-      going_full short =
-          let u : base ≡ length (flat w.rows) = w.used in
-          let b : base ≤ length before = w.room in
-          record {
-            answer = record {
-              readable = ok;
-              rows = w.rows;
-              further = row;
-              end = i;
-              next = m;
-              chain = w.chain;
-              one_more_lem = passed.got;
-              room = omega arith;
-              short = omega (arith, going_long);
-              area = w.area ∙ ap (λ (k : ℕ). flat w.rows ++ drop k before) u;
-            };
-          }
-
       module _ (room : v ≤ length out - base) where
-        pub going_room : fields pattern ≤ length (take (length out - base) (drop base out))
-        going_room = omega (arith, length-take-le (length out - base) (drop base out) (omega (arith, length-drop base out)))
-
         pub going_more : (ys : List ℕ) → Stored pattern s i (take (length out - base) (drop base out)) ys
             → Going pattern s at before (take base out ++ (ys ++ drop (length out - base) (drop base out))) m (n + 1) (base + v)
         going_more ys k =
@@ -126,25 +89,13 @@ module _ (pattern s : List ℕ) (at : ℕ) (before out : List ℕ) (i n base : �
 
 -- ---- one line, and one or none
 module _ (pattern s : List ℕ) (at : ℕ) (before : List ℕ) (ok : good pattern ≡ true) (inside : at ≤ length s) where
-  module _ (room : fields pattern ≤ length before) where
-    ready : LineReady pattern s at before
-    ready = record { readable = ok; inside = inside; room = room }
-
-    pub line_wrong : (r : Pass) (p : ℕ) → r ≡ pass.Wrong p → PassRead pattern s at r → LineRead pattern s at before before (next.Wrong p)
-    line_wrong r p q h = record { answer = record { ready = ready; bad = (subst (λ (z : Pass). PassRead pattern s at z) q h).answer; area = refl } }
-
-    pub line_read : (r : Pass) (n : ℕ) → r ≡ pass.To n → PassRead pattern s at r → (out : List ℕ) → Stored pattern s at before out → LineRead pattern s at before out (next.Read n)
-    line_read r n q h out k =
-        let w : LinePass pattern s at n = (subst (λ (z : Pass). PassRead pattern s at z) q h).answer in
-        record { answer = record { ready = ready; values = w.values; got = w.got; area = k.area w.values n w.got } }
-
-  pub few_wrong : (r : Pass) (p : ℕ) → r ≡ pass.Wrong p → PassRead pattern s at r → OptionalRead pattern s at before before (several.Read 0 0 at p)
+  pub few_wrong : (p : ℕ) → PassRead pattern s at (Err p) → OptionalRead pattern s at before before (Ok (record { count = 0; used = 0; next = at; fault = p }))
   unfolding flat
-  few_wrong r p q h = record {
+  few_wrong p h = record {
     answer = record {
       readable = ok;
       rows = [];
-      read = absent (subst (λ (z : Pass). PassRead pattern s at z) q h).answer;
+      read = absent h.answer;
       counted = refl;
       flat_used = refl;
       room = omega arith;
@@ -152,11 +103,11 @@ module _ (pattern s : List ℕ) (at : ℕ) (before : List ℕ) (ok : good patter
     };
   }
 
-  module _ (r : Pass) (n : ℕ) (q : r ≡ pass.To n) (h : PassRead pattern s at r) where
+  module _ (n : ℕ) (h : PassRead pattern s at (Ok n)) where
     stands : LinePass pattern s at n
-    stands = (subst (λ (z : Pass). PassRead pattern s at z) q h).answer
+    stands = h.answer
 
-    pub few_full : length before < fields pattern → OptionalRead pattern s at before before several.Full
+    pub few_full : length before < fields pattern → OptionalRead pattern s at before before (Err rows_error.Full)
     unfolding flat
     few_full short = record {
       answer = record {
@@ -173,7 +124,7 @@ module _ (pattern s : List ℕ) (at : ℕ) (before : List ℕ) (ok : good patter
       };
     }
 
-    pub few_read : (v : ℕ) → v ≡ fields pattern → v ≤ length before → (out : List ℕ) → Stored pattern s at before out → OptionalRead pattern s at before out (several.Read 1 v n n)
+    pub few_read : (v : ℕ) → v ≡ fields pattern → v ≤ length before → (out : List ℕ) → Stored pattern s at before out → OptionalRead pattern s at before out (Ok (record { count = 1; used = v; next = n; fault = n }))
     unfolding flat
     few_read v e room out k =
         let wide : length stands.values ≡ v = line_count pattern stands.values stands.got.got.fits ∙ sym e in

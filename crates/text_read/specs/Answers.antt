@@ -1,12 +1,13 @@
 -- What the readers' answers mean, case by case, and what the lent area then holds. On every answer but a reading the area is as before.
-use Rattle.std.specs.Prelude.{◌≡◌, Bool, true, false, List, ◌++◌, ℕ, ◌+◌, ◌≤◌, ◌<◌, length, drop}
+use Rattle.std.specs.Prelude.{◌≡◌, Bool, true, false, List, ◌++◌, ℕ, ◌+◌, ◌≤◌, ◌<◌, length, drop, Result, Ok, Err}
 use Rattle.base_laws.specs.Lists.{flat}
 use Rattle.text_forms.specs.Patterns.{line, good, fields, repeats}
 use Rattle.text_forms.specs.Reading.{GotAt, BadAt, Series, Run, Few, Beyond}
-use Rattle.text_read.specs.declared.Next.{Next}
-use Rattle.text_read.specs.declared.Next.TheVariants as next
+use Rattle.text_read.specs.declared.LineError.{LineError}
+use Rattle.text_read.specs.declared.LineError.TheVariants as line_error
+use Rattle.text_read.specs.declared.RowsError.{RowsError}
+use Rattle.text_read.specs.declared.RowsError.TheVariants as rows_error
 use Rattle.text_read.specs.declared.Several.{Several}
-use Rattle.text_read.specs.declared.Several.TheVariants as several
 
 -- ---- a line by its pattern
 -- the pattern can be read, the place is inside and the area has an entry for each number
@@ -37,14 +38,14 @@ pub record Short (pattern s : List ℕ) (at : ℕ) (before out : List ℕ) : Typ
   pub short : length before < fields pattern
   pub area : out ≡ before
 
-abbrev pub LineBy : List ℕ → List ℕ → ℕ → List ℕ → List ℕ → Next → Type 0
-LineBy pattern s at before out (next.Read n) = LineGot pattern s at before out n
-LineBy pattern s at before out (next.Wrong p) = LineBad pattern s at before out p
-LineBy pattern s at before out next.Beyond = Beyond (good pattern) s at before out
-LineBy pattern s at before out next.Pattern = Unreadable (good pattern) before out
-LineBy pattern s at before out next.Short = Short pattern s at before out
+abbrev pub LineBy : List ℕ → List ℕ → ℕ → List ℕ → List ℕ → Result ℕ LineError → Type 0
+LineBy pattern s at before out (Ok n) = LineGot pattern s at before out n
+LineBy pattern s at before out (Err (line_error.Wrong p)) = LineBad pattern s at before out p
+LineBy pattern s at before out (Err line_error.Beyond) = Beyond (good pattern) s at before out
+LineBy pattern s at before out (Err line_error.Pattern) = Unreadable (good pattern) before out
+LineBy pattern s at before out (Err line_error.Short) = Short pattern s at before out
 
-pub record LineRead (pattern s : List ℕ) (at : ℕ) (before out : List ℕ) (r : Next) : Type 0 where
+pub record LineRead (pattern s : List ℕ) (at : ℕ) (before out : List ℕ) (r : Result ℕ LineError) : Type 0 where
   pub answer : LineBy pattern s at before out r
 
 -- ---- lines by one pattern, as many as the relation R allows
@@ -74,16 +75,16 @@ pub record RowsFull (ok : Bool) (pattern s : List ℕ) (at : ℕ) (before out : 
   pub short : length before < length (flat rows) + fields pattern
   pub area : out ≡ flat rows ++ drop (length (flat rows)) before
 
-abbrev pub SeveralBy : Extent → Bool → List ℕ → List ℕ → ℕ → List ℕ → List ℕ → Several → Type 0
-SeveralBy R ok pattern s at before out (several.Read count used next fault) = RowsGot R ok before out count used next fault
-SeveralBy R ok pattern s at before out several.Full = RowsFull ok pattern s at before out
-SeveralBy R ok pattern s at before out several.Beyond = Beyond ok s at before out
-SeveralBy R ok pattern s at before out several.Pattern = Unreadable ok before out
+abbrev pub SeveralBy : Extent → Bool → List ℕ → List ℕ → ℕ → List ℕ → List ℕ → Result Several RowsError → Type 0
+SeveralBy R ok pattern s at before out (Ok r) = RowsGot R ok before out r.count r.used r.next r.fault
+SeveralBy R ok pattern s at before out (Err rows_error.Full) = RowsFull ok pattern s at before out
+SeveralBy R ok pattern s at before out (Err rows_error.Beyond) = Beyond ok s at before out
+SeveralBy R ok pattern s at before out (Err rows_error.Pattern) = Unreadable ok before out
 
 -- any number of lines: a longest run
-pub record RowsRead (pattern s : List ℕ) (at : ℕ) (before out : List ℕ) (r : Several) : Type 0 where
+pub record RowsRead (pattern s : List ℕ) (at : ℕ) (before out : List ℕ) (r : Result Several RowsError) : Type 0 where
   pub answer : SeveralBy (Run (line pattern) s at) (repeats pattern) pattern s at before out r
 
 -- one line or none
-pub record OptionalRead (pattern s : List ℕ) (at : ℕ) (before out : List ℕ) (r : Several) : Type 0 where
+pub record OptionalRead (pattern s : List ℕ) (at : ℕ) (before out : List ℕ) (r : Result Several RowsError) : Type 0 where
   pub answer : SeveralBy (Few (line pattern) s at) (good pattern) pattern s at before out r
