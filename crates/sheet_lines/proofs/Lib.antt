@@ -1,5 +1,4 @@
 pub mod Standing
 pub mod Readers
-pub mod Told
 pub mod Parts
 pub mod Allowed

@@ -14,9 +14,8 @@ use Rattle.text_forms.specs.Rest.{RestSpelled, Absent}
 use Rattle.text_forms.proofs.Rest.{got_text, left_then, only_then, left_one, left_closed, only_one, left_run}
 use Rattle.sheet_form.specs.Tails.{places_on, groups_on, allow_on, lines_on, obstacles_on, whole}
 use Rattle.sheet_form.proofs.Follows.{cells_follow, groups_follow, groups_end}
-use Rattle.sheet_lines.specs.Answers.{PlacedLine, PlacedRows, RowsOver, CellsGot, NoCells, MapRead, LinesRead, GroupsRead}
-use Rattle.sheet_lines.specs.declared.Place.TheVariants as place
-use Rattle.sheet_lines.specs.declared.Part.TheVariants as part
+use Rattle.sheet_lines.specs.Answers.{LineAt, PlacedLine, PlacedRows, RowsOver, CellsGot, NoCells, MapRead, LinesRead, GroupsRead}
+use Rattle.std.proofs.Common.{Option, None, Some}
 use Rattle.sheet_lines.proofs.Standing.{stands_kept, kept_kept}
 
 pub one_line : {B : Type 0} {s : List ℕ} {i n : ℕ} {a : List ℕ} (p : List ℕ) (g : Form B) → good p ≡ true → closes p ≡ true → GotAt (line p) s i a n
@@ -35,7 +34,7 @@ pub wide : {s : List ℕ} {i n : ℕ} {a : List ℕ} (p : List ℕ) → GotAt (l
 wide {a = a} p h = line_count p a h.got.fits
 
 -- ---- the map
-pub map_none : {s fixed cells : List ℕ} → Absent (is "(map $ $ ") s 0 → MapRead s fixed cells part.Not
+pub map_none : {s fixed cells : List ℕ} → Absent (is "(map $ $ ") s 0 → MapRead s fixed cells None
 unfolding whole
 map_none h = record { answer = only_one (is "(map $ $ ") (digits then is ")\n" then obstacles_on) h }
 
@@ -44,17 +43,17 @@ module _ {s f₀ f₁ : List ℕ} {a : ℕ} (h : PlacedLine (bytes "(map $ $ ") 
   unfolding whole good
   map_first = one_line (bytes "(map $ $ ") (digits then is ")\n" then obstacles_on) refl refl h.got
 
-  pub map_no_cells : {fixed cells : List ℕ} → NoCells s a → MapRead s fixed cells part.Not
+  pub map_no_cells : {fixed cells : List ℕ} → NoCells s a → MapRead s fixed cells None
   map_no_cells k = record { answer = only_then map_first (record { only = λ w fit e. k.over w.0 _ fit.0 (cells_follow.stop w.1 fit.1) e }) }
 
   module _ {cells : List ℕ} {count next : ℕ} (k : CellsGot s a cells count next) where
     map_second : RestSpelled s whole 0 (is ")\n" then obstacles_on) next (λ b. (h.values, (k.values, b)))
     map_second = left_then map_first (left_one digits (is ")\n" then obstacles_on) cells_follow k.got)
 
-    pub map_open : {fixed : List ℕ} → Absent (is ")\n") s next → MapRead s fixed cells part.Not
+    pub map_open : {fixed : List ℕ} → Absent (is ")\n") s next → MapRead s fixed cells None
     map_open l = record { answer = only_then map_second (only_one (is ")\n") obstacles_on l) }
 
-    pub map_got : {f₂ : List ℕ} {n : ℕ} → PlacedLine (bytes ")\n") s next 20 f₁ f₂ n → MapRead s f₂ cells (part.Read count n)
+    pub map_got : {f₂ : List ℕ} {n : ℕ} → PlacedLine (bytes ")\n") s next 20 f₁ f₂ n → MapRead s f₂ cells (Some (record { count = count; next = n }))
     unfolding good fields
     map_got l =
         let two : length h.values ≡ 2 = wide (bytes "(map $ $ ") h.got in
@@ -73,7 +72,7 @@ module _ {s f₀ f₁ : List ℕ} {a : ℕ} (h : PlacedLine (bytes "(map $ $ ") 
 
 -- ---- window, ends and block
 module _ {s : List ℕ} {at : ℕ} where
-  pub lines_none : {f₀ f₁ : List ℕ} → Absent (is "(window # # # #)\n") s at → LinesRead s at f₀ f₁ place.Not
+  pub lines_none : {f₀ f₁ : List ℕ} → Absent (is "(window # # # #)\n") s at → LinesRead s at f₀ f₁ None
   unfolding lines_on
   lines_none h = record { answer = only_one (is "(window # # # #)\n") (is "(ends $ $ $ $)\n" then is "(block $ $ $ $)\n" then allow_on) h }
 
@@ -82,7 +81,7 @@ module _ {s : List ℕ} {at : ℕ} where
     unfolding lines_on good
     lines_first = one_line (bytes "(window # # # #)\n") (is "(ends $ $ $ $)\n" then is "(block $ $ $ $)\n" then allow_on) refl refl h.got
 
-    pub lines_no_ends : {g₀ g₁ : List ℕ} → Absent (is "(ends $ $ $ $)\n") s a → LinesRead s at g₀ g₁ place.Not
+    pub lines_no_ends : {g₀ g₁ : List ℕ} → Absent (is "(ends $ $ $ $)\n") s a → LinesRead s at g₀ g₁ None
     lines_no_ends k = record { answer = only_then lines_first (only_one (is "(ends $ $ $ $)\n") (is "(block $ $ $ $)\n" then allow_on) k) }
 
     module _ {f₂ : List ℕ} {b : ℕ} (k : PlacedLine (bytes "(ends $ $ $ $)\n") s a 6 f₁ f₂ b) where
@@ -90,10 +89,10 @@ module _ {s : List ℕ} {at : ℕ} where
       unfolding good
       lines_second = left_then lines_first (one_line (bytes "(ends $ $ $ $)\n") (is "(block $ $ $ $)\n" then allow_on) refl refl k.got)
 
-      pub lines_no_block : {g₀ g₁ : List ℕ} → Absent (is "(block $ $ $ $)\n") s b → LinesRead s at g₀ g₁ place.Not
+      lines_no_block : {g₀ g₁ : List ℕ} → Absent (is "(block $ $ $ $)\n") s b → LinesRead s at g₀ g₁ None
       lines_no_block l = record { answer = only_then lines_second (only_one (is "(block $ $ $ $)\n") allow_on l) }
 
-      pub lines_got : {f₃ : List ℕ} {n : ℕ} → PlacedLine (bytes "(block $ $ $ $)\n") s b 10 f₂ f₃ n → LinesRead s at f₀ f₃ (place.At n)
+      lines_got : {f₃ : List ℕ} {n : ℕ} → PlacedLine (bytes "(block $ $ $ $)\n") s b 10 f₂ f₃ n → LinesRead s at f₀ f₃ (Some n)
       unfolding good fields
       lines_got l =
           let w : length h.values ≡ 4 = wide (bytes "(window # # # #)\n") h.got in
@@ -113,6 +112,10 @@ module _ {s : List ℕ} {at : ℕ} where
               kept = kept_kept h.kept (kept_kept k.kept l.kept (omega arith)) (omega arith);
             };
           }
+
+      pub lines_last : {f₃ : List ℕ} (r : Option ℕ) → LineAt (bytes "(block $ $ $ $)\n") s b 10 f₂ f₃ r → LinesRead s at f₀ f₃ r
+      lines_last (Some n) l = lines_got l.answer
+      lines_last None l = lines_no_block l.answer
 
 -- ---- the groups
 digits_some : (v : ℕ) → 0 < length (decimal v)
@@ -146,7 +149,7 @@ no_groups_over {s} {before} short room h =
     omega (arith, chain_bytes h.chain, slot_bytes h.one_more_lem)
 
 module _ {s : List ℕ} {at : ℕ} where
-  pub groups_none : {f₀ f₁ out : List ℕ} → Absent (is "(groups") s at → GroupsRead s at f₀ f₁ out part.Not
+  pub groups_none : {f₀ f₁ out : List ℕ} → Absent (is "(groups") s at → GroupsRead s at f₀ f₁ out None
   unfolding groups_on
   groups_none h = record { answer = only_one (is "(groups") (many (is " $") (is ")\n" then places_on)) h }
 
@@ -158,10 +161,10 @@ module _ {s : List ℕ} {at : ℕ} where
         left_then (one_line (bytes "(groups") (many (is " $") (is ")\n" then places_on)) refl refl (no_numbers (bytes "(groups") refl h.got))
         (left_run (is " $") (is ")\n" then places_on) groups_end groups_follow k.chain k.inside k.stops)
 
-    pub groups_open : {g₀ g₁ o : List ℕ} → Absent (is ")\n") s next → GroupsRead s at g₀ g₁ o part.Not
+    pub groups_open : {g₀ g₁ o : List ℕ} → Absent (is ")\n") s next → GroupsRead s at g₀ g₁ o None
     groups_open l = record { answer = only_then groups_second (only_one (is ")\n") places_on l) }
 
-    pub groups_got : {f₂ : List ℕ} {n : ℕ} → length before ≡ 4096 → PlacedLine (bytes ")\n") s next 20 f₁ f₂ n → GroupsRead s at f₀ f₂ out (part.Read count n)
+    pub groups_got : {f₂ : List ℕ} {n : ℕ} → length before ≡ 4096 → PlacedLine (bytes ")\n") s next 20 f₁ f₂ n → GroupsRead s at f₀ f₂ out (Some (record { count = count; next = n }))
     unfolding good fields
     groups_got room l =
         let once : 1 * count ≡ count = omega arith in

@@ -1,15 +1,13 @@
 -- What the readers of a sheet's lines and parts answer, case by case: where their numbers then stand, and what is left of the text.
-use Rattle.std.specs.Prelude.{◌≡◌, true, List, [], ◌∷◌, ◌++◌, ℕ, ◌+◌, ◌*◌, ◌≤◌, ◌<◌, length, take, drop, get_or}
+use Rattle.std.specs.Prelude.{◌≡◌, true, List, [], ◌∷◌, ◌++◌, ℕ, ◌+◌, ◌*◌, ◌≤◌, ◌<◌, length, take, drop, get_or, cond, Option, None, Some}
 use Rattle.base_laws.specs.Lists.{flat}
 use Rattle.text_forms.specs.Forms.{digits}
 use Rattle.text_forms.specs.Patterns.{line, good, fields}
 use Rattle.text_forms.specs.Reading.{Stop, GotAt, Series}
 use Rattle.text_forms.specs.Rest.{RestSpelled, Only, Absent}
 use Rattle.sheet_form.specs.Tails.{places_on, groups_on, allow_on, lines_on, obstacles_on, whole}
-use Rattle.sheet_lines.specs.declared.Place.{Place}
-use Rattle.sheet_lines.specs.declared.Place.TheVariants as place
 use Rattle.sheet_lines.specs.declared.Part.{Part}
-use Rattle.sheet_lines.specs.declared.Part.TheVariants as part
+use Rattle.sheet_lines.specs.declared.Limits.{Limits}
 
 -- the row's numbers are the area's, from the slot on
 pub record Stands (row : List ℕ) (slot : ℕ) (area : List ℕ) : Type 0 where
@@ -31,11 +29,11 @@ pub record PlacedLine (pattern s : List ℕ) (at slot : ℕ) (before out : List 
   pub stands : Stands values slot out
   pub kept : FrontKept slot before out
 
-abbrev pub PlacedLineBy : (pattern s : List ℕ) (at slot : ℕ) (before out : List ℕ) → Place → Type 0
-PlacedLineBy pattern s at slot before out (place.At n) = PlacedLine pattern s at slot before out n
-PlacedLineBy pattern s at slot before out place.Not = Absent (line pattern) s at
+abbrev pub PlacedLineBy : (pattern s : List ℕ) (at slot : ℕ) (before out : List ℕ) → Option ℕ → Type 0
+PlacedLineBy pattern s at slot before out (Some n) = PlacedLine pattern s at slot before out n
+PlacedLineBy pattern s at slot before out None = Absent (line pattern) s at
 
-pub record LineAt (pattern s : List ℕ) (at slot : ℕ) (before out : List ℕ) (r : Place) : Type 0 where
+pub record LineAt (pattern s : List ℕ) (at slot : ℕ) (before out : List ℕ) (r : Option ℕ) : Type 0 where
   pub answer : PlacedLineBy pattern s at slot before out r
 
 -- ---- lines by one pattern
@@ -58,11 +56,11 @@ pub record RowsOver (pattern s : List ℕ) (at : ℕ) (before : List ℕ) : Type
   pub one_more_lem : GotAt (line pattern) s end further next
   pub short : length before < fields pattern * length rows + fields pattern
 
-abbrev pub RowsBy : (pattern s : List ℕ) (at : ℕ) (before out : List ℕ) → Part → Type 0
-RowsBy pattern s at before out (part.Read count next) = PlacedRows pattern s at before out count next
-RowsBy pattern s at before out part.Not = RowsOver pattern s at before
+abbrev pub RowsBy : (pattern s : List ℕ) (at : ℕ) (before out : List ℕ) → Option Part → Type 0
+RowsBy pattern s at before out (Some p) = PlacedRows pattern s at before out p.count p.next
+RowsBy pattern s at before out None = RowsOver pattern s at before
 
-pub record RowsAt (pattern s : List ℕ) (at : ℕ) (before out : List ℕ) (r : Part) : Type 0 where
+pub record RowsAt (pattern s : List ℕ) (at : ℕ) (before out : List ℕ) (r : Option Part) : Type 0 where
   pub answer : RowsBy pattern s at before out r
 
 -- ---- the cells
@@ -77,11 +75,11 @@ pub record CellsGot (s : List ℕ) (at : ℕ) (out : List ℕ) (count next : ℕ
 pub record NoCells (s : List ℕ) (at : ℕ) : Type 0 where
   pub over : (v x : List ℕ) → digits.fits v → Stop (x ++ (256 ∷ [])) → digits.spell v ++ x ≡ drop at s → 64 < length v
 
-abbrev pub CellsBy : (s : List ℕ) (at : ℕ) (out : List ℕ) → Part → Type 0
-CellsBy s at out (part.Read count next) = CellsGot s at out count next
-CellsBy s at out part.Not = NoCells s at
+abbrev pub CellsBy : (s : List ℕ) (at : ℕ) (out : List ℕ) → Option Part → Type 0
+CellsBy s at out (Some p) = CellsGot s at out p.count p.next
+CellsBy s at out None = NoCells s at
 
-pub record CellsAt (s : List ℕ) (at : ℕ) (out : List ℕ) (r : Part) : Type 0 where
+pub record CellsAt (s : List ℕ) (at : ℕ) (out : List ℕ) (r : Option Part) : Type 0 where
   pub answer : CellsBy s at out r
 
 -- ---- the map
@@ -95,11 +93,11 @@ pub record MapGot (s fixed cells : List ℕ) (count next : ℕ) : Type 0 where
   pub few : count ≤ 64
   pub area : take count cells ≡ values
 
-abbrev pub MapBy : (s fixed cells : List ℕ) → Part → Type 0
-MapBy s fixed cells (part.Read count next) = MapGot s fixed cells count next
-MapBy s fixed cells part.Not = Only s whole 0 (λ w. 64 < length w.1.0)
+abbrev pub MapBy : (s fixed cells : List ℕ) → Option Part → Type 0
+MapBy s fixed cells (Some p) = MapGot s fixed cells p.count p.next
+MapBy s fixed cells None = Only s whole 0 (λ w. 64 < length w.1.0)
 
-pub record MapRead (s fixed cells : List ℕ) (r : Part) : Type 0 where
+pub record MapRead (s fixed cells : List ℕ) (r : Option Part) : Type 0 where
   pub answer : MapBy s fixed cells r
 
 -- ---- window, ends and block
@@ -116,11 +114,11 @@ pub record LinesGot (s : List ℕ) (at : ℕ) (before out : List ℕ) (next : �
   pub block_stands : Stands block 10 out
   pub kept : FrontKept 2 before out
 
-abbrev pub LinesBy : (s : List ℕ) (at : ℕ) (before out : List ℕ) → Place → Type 0
-LinesBy s at before out (place.At next) = LinesGot s at before out next
-LinesBy s at before out place.Not = Only s lines_on at (λ w. ⊥)
+abbrev pub LinesBy : (s : List ℕ) (at : ℕ) (before out : List ℕ) → Option ℕ → Type 0
+LinesBy s at before out (Some next) = LinesGot s at before out next
+LinesBy s at before out None = Only s lines_on at (λ w. ⊥)
 
-pub record LinesRead (s : List ℕ) (at : ℕ) (before out : List ℕ) (r : Place) : Type 0 where
+pub record LinesRead (s : List ℕ) (at : ℕ) (before out : List ℕ) (r : Option ℕ) : Type 0 where
   pub answer : LinesBy s at before out r
 
 -- ---- allow and limits
@@ -135,11 +133,11 @@ pub record LimitsGot (s : List ℕ) (at : ℕ) (before out : List ℕ) (count ne
   pub limits_wide : length limits ≡ 2
   pub kept : FrontKept 14 before out
 
-abbrev pub LimitsBy : (s : List ℕ) (at : ℕ) (before out : List ℕ) → Part → Type 0
-LimitsBy s at before out (part.Read count next) = LimitsGot s at before out count next
-LimitsBy s at before out part.Not = Only s allow_on at (λ w. ⊥)
+abbrev pub LimitsBy : (s : List ℕ) (at : ℕ) (before out : List ℕ) → Option Limits → Type 0
+LimitsBy s at before out (Some l) = LimitsGot s at before out (cond l.allow 1 0) l.next
+LimitsBy s at before out None = Only s allow_on at (λ w. ⊥)
 
-pub record LimitsRead (s : List ℕ) (at : ℕ) (before out : List ℕ) (r : Part) : Type 0 where
+pub record LimitsRead (s : List ℕ) (at : ℕ) (before out : List ℕ) (r : Option Limits) : Type 0 where
   pub answer : LimitsBy s at before out r
 
 -- ---- the groups
@@ -151,9 +149,9 @@ pub record GroupsGot (s : List ℕ) (at : ℕ) (before after out : List ℕ) (co
   pub area : take count out ≡ flat rows
   pub kept : FrontKept 20 before after
 
-abbrev pub GroupsBy : (s : List ℕ) (at : ℕ) (before after out : List ℕ) → Part → Type 0
-GroupsBy s at before after out (part.Read count next) = GroupsGot s at before after out count next
-GroupsBy s at before after out part.Not = Only s groups_on at (λ w. ⊥)
+abbrev pub GroupsBy : (s : List ℕ) (at : ℕ) (before after out : List ℕ) → Option Part → Type 0
+GroupsBy s at before after out (Some p) = GroupsGot s at before after out p.count p.next
+GroupsBy s at before after out None = Only s groups_on at (λ w. ⊥)
 
-pub record GroupsRead (s : List ℕ) (at : ℕ) (before after out : List ℕ) (r : Part) : Type 0 where
+pub record GroupsRead (s : List ℕ) (at : ℕ) (before after out : List ℕ) (r : Option Part) : Type 0 where
   pub answer : GroupsBy s at before after out r

@@ -1,2 +1,1 @@
 pub mod Edges
-pub mod Tests

@@ -8,7 +8,6 @@ ghost use Rattle.sheet_words.specs.Caps.{few_centres, caps_left};
 
 use base_model::Rect;
 use sheet_form::{LIMITS, MOST_CENTRES, MOST_STATES, WINDOW};
-use text_forms::{NEGATIVE, WORD};
 
 // The most states of a sheet, as a word.
 const STATES: u32 = MOST_STATES as u32;
@@ -17,10 +16,7 @@ const STATES: u32 = MOST_STATES as u32;
 pub fn edge(word: u32) -> i32
     ensures { result ≡ signed_of word }
 {
-    if word < NEGATIVE {
-        return word as i32;
-    }
-    -((WORD - word) as i32) - 1
+    word.cast_signed()
 }
 
 // The rectangle whose four edges stand in a row of words.
@@ -28,15 +24,11 @@ pub fn rect_in(words: &[u32], at: usize) -> Rect
     requires { at + 4 ≤ length words.now }
     ensures { result ≡ rect_of (drop at words.now) }
 {
-    let left = edge(words[at]);
-    let top = edge(words[at + 1]);
-    let right = edge(words[at + 2]);
-    let bottom = edge(words[at + 3]);
     Rect {
-        left: left,
-        top: top,
-        right: right,
-        bottom: bottom,
+        left: edge(words[at]),
+        top: edge(words[at + 1]),
+        right: edge(words[at + 2]),
+        bottom: edge(words[at + 3]),
     }
 }
 
@@ -44,10 +36,7 @@ pub fn rect_in(words: &[u32], at: usize) -> Rect
 fn few_centres(w: Rect) -> bool
     ensures { result ≡ few_centres w }
 {
-    if !ground_rects::nonempty(w) {
-        return true;
-    }
-    ground_rects::width(w) * ground_rects::height(w) <= MOST_CENTRES
+    !ground_rects::nonempty(w) || ground_rects::width(w) * ground_rects::height(w) <= MOST_CENTRES
 }
 
 // The caps that `read_sheet` leaves: the window's centres and the states.
@@ -55,8 +44,5 @@ pub fn within_caps(fixed: &[u32]) -> bool
     requires { length fixed.now ≡ 20 }
     ensures { result ≡ caps_left fixed.now }
 {
-    if STATES < fixed[LIMITS] {
-        return false;
-    }
-    few_centres(rect_in(fixed, WINDOW))
+    fixed[LIMITS] <= STATES && few_centres(rect_in(fixed, WINDOW))
 }

@@ -2,26 +2,10 @@
 use Rattle.sheet_lines.proofs.Readers.{rows_not, rows_got}
 use Rattle.sheet_lines.proofs.rows_at.Goals as goal
 
-pub returns-in-Read : goal.returns-in-Read
-returns-in-Read c =
-    rows_got _ _ _ _ c.requires.pattern_value
-    c.requires.at_in_bounds c.in-Read.is
-    c.rows.ensures
+pub returns-in_err-read : goal.returns-in_err-read
+returns-in_err-read c =
+    let e = c.in_err-read.ensures in
+    rw (c.from_residual.ensures) (rows_not _ _ _ _ c.requires.pattern_value c.requires.at_in_bounds _ e.value c.rows.ensures)
 
-pub returns-in-Full : goal.returns-in-Full
-returns-in-Full c =
-    rows_not _ _ _ _ c.requires.pattern_value
-    c.requires.at_in_bounds c.in-Full.is tt
-    c.rows.ensures
-
-pub returns-in-Beyond : goal.returns-in-Beyond
-returns-in-Beyond c =
-    rows_not _ _ _ _ c.requires.pattern_value
-    c.requires.at_in_bounds c.in-Beyond.is tt
-    c.rows.ensures
-
-pub returns-in-Pattern : goal.returns-in-Pattern
-returns-in-Pattern c =
-    rows_not _ _ _ _ c.requires.pattern_value
-    c.requires.at_in_bounds c.in-Pattern.is tt
-    c.rows.ensures
+pub returns : goal.returns
+returns c = let e = c.in_ok-read.ensures in rows_got _ _ _ _ c.requires.pattern_value c.requires.at_in_bounds {v = c.in_ok-read.read} _ e.value c.rows.ensures

@@ -1,9 +1,7 @@
--- `few_centres`: the product of two sides below 2³² fits.
-use mathlib.Core.Path.{◌≡◌, sym, ◌∙◌, ap, ap₂}
+-- `few_centres`: an empty window has few; else the product of two sides counts.
+use mathlib.Core.Path.{◌≡◌, sym, ap₂, ap, ◌∙◌}
 use mathlib.Core.Bool.{true, false}
-use Prim.Native.Nat.{ℕ, ◌*◌, ◌≤◌}
-use native.Mathlib.Nat.{mul-le-mul}
-use native.Mathlib.Omega.{arith}
+use Prim.Native.Nat.{ℕ, ◌*◌}
 use lib.Dec.{leb}
 use Rattle.ground_rects.specs.Rects.{nonempty}
 use Rattle.ground_rects.specs.Windows.{centres}
@@ -14,22 +12,11 @@ pub returns-then-not-nonempty : goal.returns-then-not-nonempty
 unfolding few_centres
 returns-then-not-nonempty c =
     let n : nonempty c.args.w ≡ false = sym c.nonempty.ensures ∙ c.if-not-nonempty.true in
-    rw (few_centres, n)
+    let r = c.if-not-nonempty.true in
+    rw (few_centres, n, r)
 
-pub width-requires : goal.width-requires
-width-requires c = sym c.nonempty.ensures ∙ c.if-not-nonempty.false
-
-pub height-requires : goal.height-requires
-height-requires c = sym c.nonempty.ensures ∙ c.if-not-nonempty.false
-
-pub overflow_mul-result : goal.overflow_mul-result
-overflow_mul-result c =
-    let x : c.width.result ≤ 4294967295 = omega (arith, c.width.ensures.1) in
-    let y : c.height.result ≤ 4294967295 = omega (arith, c.height.ensures.1) in
-    omega (arith, mul-le-mul x y)
-
-pub returns : goal.returns
+pub returns-else-not-nonempty : goal.returns-else-not-nonempty
 unfolding few_centres centres
-returns c =
+returns-else-not-nonempty c =
     let n : nonempty c.args.w ≡ true = sym c.nonempty.ensures ∙ c.if-not-nonempty.false in
     rw (few_centres, n) (ap (λ (k : ℕ). leb k 256) (ap₂ ◌*◌ c.width.ensures.0 c.height.ensures.0))

@@ -1,10 +1,21 @@
 -- `rect_in`: four words, four edges.
-use Rattle.sheet_words.proofs.Edges.{rect_made}
+use native.Mathlib.Omega.{arith}
+use Rattle.std.proofs.Common.{◌≡◌, ◌+◌, ◌∙◌, ap, get_or}
+use Prim.Native.Nat.{ℕ}
+use Rattle.sheet_form.specs.Sheets.{rect_of, signed_of}
+use Rattle.ground_rects.specs.Rects.{rect}
+use Rattle.sheet_words.proofs.Edges.{edge_stored}
 use Rattle.sheet_words.proofs.rect_in.Goals as goal
 
 pub returns : goal.returns
+unfolding rect_of rect
 returns c =
-    rect_made c.args.words.now
-    c.args.at _ _ _ _
-    c.edge-left.ensures c.edge-top.ensures
-    c.edge-right.ensures c.edge-bottom.ensures
+    let w = c.args.words.now in
+    let at = c.args.at in
+    let first : at ≡ at + 0 = omega arith in
+    rw (
+      edge_stored w at 0 _ (c.edge.ensures ∙ ap (λ (i : ℕ). signed_of (get_or w i 0)) first) (c.type_inv.words (at + 0)),
+      edge_stored w at 1 _ c.edge-2.ensures (c.type_inv.words (at + 1)),
+      edge_stored w at 2 _ c.edge-3.ensures (c.type_inv.words (at + 2)),
+      edge_stored w at 3 _ c.edge-4.ensures (c.type_inv.words (at + 3)),
+    )
