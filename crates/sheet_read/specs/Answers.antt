@@ -1,11 +1,9 @@
 -- What `read_sheet` answers, case by case, and what the lent areas then hold.
-use Rattle.std.specs.Prelude.{◌≡◌, ◌⊎◌, List, [], ℕ, ◌*◌, ◌≤◌, ◌<◌, length, take, get_or}
+use Rattle.std.specs.Prelude.{◌≡◌, ◌⊎◌, List, [], ℕ, ◌*◌, ◌≤◌, ◌<◌, length, take, get_or, cond, Option, None, Some}
 use Rattle.base_laws.specs.Lists.{flat}
 use Rattle.sheet_form.specs.Sheets.{Sheet, sheet}
 use Rattle.sheet_lines.specs.Answers.{Stands}
 use Rattle.sheet_read.specs.declared.Counts.{Counts}
-use Rattle.sheet_read.specs.declared.Found.{Found}
-use Rattle.sheet_read.specs.declared.Found.TheVariants as found
 
 -- the text is short, and the areas are those of the largest sheet
 pub record SheetLent (text fixed cells obstacles groups places : List ℕ) : Type 0 where
@@ -20,7 +18,7 @@ pub record SheetLent (text fixed cells obstacles groups places : List ℕ) : Typ
 pub record SheetHeld (s : Sheet) (k : Counts) (fixed cells obstacles groups places : List ℕ) : Type 0 where
   pub cell_count : k.cells ≡ length s.cells
   pub obstacle_count : k.obstacles ≡ length s.obstacles
-  pub allow_count : k.allow ≡ length s.allow
+  pub allow_count : cond k.allow 1 0 ≡ length s.allow
   pub group_count : k.groups ≡ length s.groups
   pub place_count : k.places ≡ length s.places
   pub few_cells : k.cells ≤ 64
@@ -52,9 +50,9 @@ pub record SheetGot (text : List ℕ) (k : Counts) (fixed cells obstacles groups
 pub record SheetNot (text : List ℕ) : Type 0 where
   pub over : (s : Sheet) → sheet.fits s → sheet.spell s ≡ text → Over s
 
-abbrev pub SheetBy : (text fixed cells obstacles groups places : List ℕ) → Found → Type 0
-SheetBy text fixed cells obstacles groups places (found.Sheet k) = SheetGot text k fixed cells obstacles groups places
-SheetBy text fixed cells obstacles groups places found.Not = SheetNot text
+abbrev pub SheetBy : (text fixed cells obstacles groups places : List ℕ) → Option Counts → Type 0
+SheetBy text fixed cells obstacles groups places (Some k) = SheetGot text k fixed cells obstacles groups places
+SheetBy text fixed cells obstacles groups places None = SheetNot text
 
-pub record SheetRead (text fixed cells obstacles groups places : List ℕ) (r : Found) : Type 0 where
+pub record SheetRead (text fixed cells obstacles groups places : List ℕ) (r : Option Counts) : Type 0 where
   pub answer : SheetBy text fixed cells obstacles groups places r

@@ -3,26 +3,18 @@
 
 ghost use Rattle.sheet_read.specs.Answers.{SheetLent, SheetRead};
 
-use sheet_lines::{Part, Place};
-
-// How many of each kind a sheet has; `allow` is 0 or 1.
-#[derive(Clone, Copy)]
+// How many of each kind a sheet has, and whether it has an allowed mover.
+#[derive(Clone, Copy, PartialEq, Eq, Debug)]
 pub struct Counts {
     pub cells: usize,
     pub obstacles: usize,
-    pub allow: usize,
+    pub allow: bool,
     pub groups: usize,
     pub places: usize,
 }
 
-// The answer of `read_sheet`: the sheet's numbers stand in the areas, or the text is none, or one with more than the areas hold.
-#[derive(Clone, Copy)]
-pub enum Found {
-    Sheet(Counts),
-    Not,
-}
-
-// Reads a sheet: the numbers of the lines that stand once go to fixed, those of the other lines and the cells to areas of their own.
+// Reads a sheet: the numbers of the lines that stand once go to fixed, those of the other lines and the cells to areas of their own. None
+// is the answer where the text is no sheet, or one with more than the areas hold.
 pub fn read_sheet(
     text: &[u8],
     fixed: &mut [u32],
@@ -30,46 +22,30 @@ pub fn read_sheet(
     obstacles: &mut [u32],
     groups: &mut [u32],
     places: &mut [u32],
-) -> Found
+) -> Option<Counts>
     requires { SheetLent text.now fixed.old cells.old obstacles.old groups.old places.old }
     ensures { SheetRead text.now fixed.new cells.new
         obstacles.new groups.new places.new result }
 {
-    let Part::Read { count: c, next: a } = sheet_lines::map_line(text, fixed, cells) else {
-        return Found::Not;
-    };
-    let Part::Read { count: o, next: b } = sheet_lines::rows_at(
+    let map = sheet_lines::map_line(text, fixed, cells)?;
+    let around = sheet_lines::rows_at(text, map.next, b"(obstacle # # # #)\n", obstacles)?;
+    let query = sheet_lines::query_lines(text, around.next, fixed)?;
+    let limits = sheet_lines::limit_lines(text, query, fixed)?;
+    let slots = sheet_lines::groups_line(text, limits.next, fixed, groups)?;
+    let placed = sheet_lines::rows_at(
         text,
-        a,
-        b"(obstacle # # # #)\n",
-        obstacles,
-    ) else {
-        return Found::Not;
-    };
-    let Place::At(d) = sheet_lines::query_lines(text, b, fixed) else {
-        return Found::Not;
-    };
-    let Part::Read { count: w, next: e } = sheet_lines::limit_lines(text, d, fixed) else {
-        return Found::Not;
-    };
-    let Part::Read { count: g, next: f } = sheet_lines::groups_line(text, e, fixed, groups) else {
-        return Found::Not;
-    };
-    let Part::Read {
-        count: p,
-        next: end,
-    } = sheet_lines::rows_at(text, f, b"(place $ $ $ $ (# # # #) (# # # #))\n", places)
-    else {
-        return Found::Not;
-    };
-    if end < text.len() {
-        return Found::Not;
+        slots.next,
+        b"(place $ $ $ $ (# # # #) (# # # #))\n",
+        places,
+    )?;
+    if placed.next < text.len() {
+        return None;
     }
-    Found::Sheet(Counts {
-        cells: c,
-        obstacles: o,
-        allow: w,
-        groups: g,
-        places: p,
+    Some(Counts {
+        cells: map.count,
+        obstacles: around.count,
+        allow: limits.allow,
+        groups: slots.count,
+        places: placed.count,
     })
 }

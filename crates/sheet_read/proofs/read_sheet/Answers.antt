@@ -2,138 +2,88 @@
 use native.Mathlib.Omega.{arith}
 use mathlib.Core.Path.{refl}
 use Rattle.text_forms.specs.Patterns.{good, repeats}
-use Rattle.sheet_lines.proofs.Told.{map_is, map_isnt, rows_are, rows_arent, lines_are, lines_arent, limits_are, limits_arent, groups_are, groups_arent}
 use Rattle.sheet_read.proofs.Whole.{no_map, no_obstacles, no_lines, no_limits, no_groups, no_places, no_end, whole_sheet}
 use Rattle.sheet_read.proofs.read_sheet.Goals as goal
 
-pub returns-in_default : goal.returns-in_default
-returns-in_default c = no_map (map_isnt c.in_default.is c.map_line.ensures)
+pub returns-in_err-map : goal.returns-in_err-map
+returns-in_err-map c = let h = c.in_err-map.ensures in rw (c.from_residual.ensures) (no_map h)
 
 pub rows_at-requires : goal.rows_at-requires
 unfolding good repeats
-rows_at-requires c = record { pattern_value = refl; at_in_bounds = (map_is c.in-Read.is c.map_line.ensures).left.inside }
+rows_at-requires c = let m = c.in_ok-map.ensures in record { pattern_value = refl; at_in_bounds = m.answer.left.inside }
 
-pub returns-in_default-rows_at : goal.returns-in_default-rows_at
-returns-in_default-rows_at c =
-    no_obstacles
-    (map_is c.in-Read.is
-    c.map_line.ensures)
-    c.requires.obstacle_room
-    (rows_arent c.in_default-rows_at.is c.rows_at.ensures)
+pub returns-in_err-around : goal.returns-in_err-around
+returns-in_err-around c =
+    let m = c.in_ok-map.ensures in
+    let h = c.in_err-around.ensures in
+    rw (c.from_residual-in_err-around.ensures) (no_obstacles m.answer c.requires.obstacle_room h.answer)
 
 pub query_lines-requires : goal.query_lines-requires
-query_lines-requires c = record { at_in_bounds = (rows_are c.in-Read-rows_at.is c.rows_at.ensures).inside; fixed_len = omega (arith, c.requires.fixed_room) }
+query_lines-requires c = let o = c.in_ok-around.ensures in record { at_in_bounds = o.answer.inside; fixed_len = omega (arith, c.requires.fixed_room) }
 
-pub returns-in_default-query_lines : goal.returns-in_default-query_lines
-returns-in_default-query_lines c =
-    no_lines
-    (map_is c.in-Read.is
-    c.map_line.ensures)
-    (rows_are c.in-Read-rows_at.is
-    c.rows_at.ensures)
-    (lines_arent c.in_default-query_lines.is c.query_lines.ensures)
+pub returns-in_err-query : goal.returns-in_err-query
+returns-in_err-query c =
+    let m = c.in_ok-map.ensures in
+    let o = c.in_ok-around.ensures in
+    let h = c.in_err-query.ensures in
+    rw (c.from_residual-in_err-query.ensures) (no_lines m.answer o.answer h)
 
 pub limit_lines-requires : goal.limit_lines-requires
-limit_lines-requires c = record { at_in_bounds = (lines_are c.in-At.is c.query_lines.ensures).left.inside; fixed_len = omega (arith, c.requires.fixed_room) }
+limit_lines-requires c = let q = c.in_ok-query.ensures in record { at_in_bounds = q.answer.left.inside; fixed_len = omega (arith, c.requires.fixed_room) }
 
-pub returns-in_default-limit_lines : goal.returns-in_default-limit_lines
-returns-in_default-limit_lines c =
-    no_limits
-    (map_is
-    c.in-Read.is
-    c.map_line.ensures)
-    (rows_are c.in-Read-rows_at.is
-    c.rows_at.ensures)
-    (lines_are c.in-At.is
-    c.query_lines.ensures)
-    (limits_arent c.in_default-limit_lines.is c.limit_lines.ensures)
+pub returns-in_err-limits : goal.returns-in_err-limits
+returns-in_err-limits c =
+    let m = c.in_ok-map.ensures in
+    let o = c.in_ok-around.ensures in
+    let q = c.in_ok-query.ensures in
+    let h = c.in_err-limits.ensures in
+    rw (c.from_residual-in_err-limits.ensures) (no_limits m.answer o.answer q.answer h)
 
 pub groups_line-requires : goal.groups_line-requires
-groups_line-requires c = record {
-  text_len_bound = (c.requires.text_short, (limits_are c.in-Read-limit_lines.is c.limit_lines.ensures).left.inside);
-  fixed_len = (
-    omega (arith, c.requires.fixed_room),
-    c.requires.group_room,
-  );
+groups_line-requires c = let l = c.in_ok-limits.ensures in record {
+  text_len_bound = (c.requires.text_short, l.answer.left.inside);
+  fixed_len = (omega (arith, c.requires.fixed_room), c.requires.group_room);
 }
 
-pub returns-in_default-groups_line : goal.returns-in_default-groups_line
-returns-in_default-groups_line c =
-    no_groups
-    (map_is
-    c.in-Read.is
-    c.map_line.ensures)
-    (rows_are
-    c.in-Read-rows_at.is
-    c.rows_at.ensures)
-    (lines_are
-    c.in-At.is
-    c.query_lines.ensures)
-    (limits_are c.in-Read-limit_lines.is
-    c.limit_lines.ensures)
-    (groups_arent c.in_default-groups_line.is c.groups_line.ensures)
+pub returns-in_err-slots : goal.returns-in_err-slots
+returns-in_err-slots c =
+    let m = c.in_ok-map.ensures in
+    let o = c.in_ok-around.ensures in
+    let q = c.in_ok-query.ensures in
+    let l = c.in_ok-limits.ensures in
+    let h = c.in_err-slots.ensures in
+    rw (c.from_residual-in_err-slots.ensures) (no_groups m.answer o.answer q.answer l.answer h)
 
 pub rows_at-requires-2 : goal.rows_at-requires-2
 unfolding good repeats
-rows_at-requires-2 c = record { pattern_value = refl; at_in_bounds = (groups_are c.in-Read-groups_line.is c.groups_line.ensures).left.inside }
+rows_at-requires-2 c = let g = c.in_ok-slots.ensures in record { pattern_value = refl; at_in_bounds = g.answer.left.inside }
 
-pub returns-in_default-rows_at-2 : goal.returns-in_default-rows_at-2
-returns-in_default-rows_at-2 c =
-    no_places
-    (map_is
-    c.in-Read.is
-    c.map_line.ensures)
-    (rows_are
-    c.in-Read-rows_at.is
-    c.rows_at.ensures)
-    (lines_are
-    c.in-At.is
-    c.query_lines.ensures)
-    (limits_are
-    c.in-Read-limit_lines.is
-    c.limit_lines.ensures)
-    (groups_are c.in-Read-groups_line.is
-    c.groups_line.ensures)
-    c.requires.place_room
-    (rows_arent c.in_default-rows_at-2.is c.rows_at-2.ensures)
+pub returns-in_err-placed : goal.returns-in_err-placed
+returns-in_err-placed c =
+    let m = c.in_ok-map.ensures in
+    let o = c.in_ok-around.ensures in
+    let q = c.in_ok-query.ensures in
+    let l = c.in_ok-limits.ensures in
+    let g = c.in_ok-slots.ensures in
+    let h = c.in_err-placed.ensures in
+    rw (c.from_residual-in_err-placed.ensures) (no_places m.answer o.answer q.answer l.answer g.answer c.requires.place_room h.answer)
 
-pub returns-then-end-text : goal.returns-then-end-text
-returns-then-end-text c =
-    no_end
-    (map_is
-    c.in-Read.is
-    c.map_line.ensures)
-    (rows_are
-    c.in-Read-rows_at.is
-    c.rows_at.ensures)
-    (lines_are
-    c.in-At.is
-    c.query_lines.ensures)
-    (limits_are
-    c.in-Read-limit_lines.is
-    c.limit_lines.ensures)
-    (groups_are c.in-Read-groups_line.is
-    c.groups_line.ensures)
-    (rows_are c.in-Read-rows_at-2.is c.rows_at-2.ensures) c.if-end-text.true
+pub returns-then-placed-text : goal.returns-then-placed-text
+returns-then-placed-text c =
+    let m = c.in_ok-map.ensures in
+    let o = c.in_ok-around.ensures in
+    let q = c.in_ok-query.ensures in
+    let l = c.in_ok-limits.ensures in
+    let g = c.in_ok-slots.ensures in
+    let p = c.in_ok-placed.ensures in
+    no_end m.answer o.answer q.answer l.answer g.answer p.answer c.if-placed-text.true
 
 pub returns : goal.returns
 returns c =
-    whole_sheet
-    (map_is
-    c.in-Read.is
-    c.map_line.ensures)
-    (rows_are
-    c.in-Read-rows_at.is
-    c.rows_at.ensures)
-    (lines_are
-    c.in-At.is
-    c.query_lines.ensures)
-    (limits_are
-    c.in-Read-limit_lines.is
-    c.limit_lines.ensures)
-    (groups_are c.in-Read-groups_line.is
-    c.groups_line.ensures)
-    (rows_are c.in-Read-rows_at-2.is c.rows_at-2.ensures)
-    (omega (arith, (rows_are c.in-Read-rows_at-2.is c.rows_at-2.ensures).inside))
-    c.requires.obstacle_room
-    c.requires.place_room
+    let m = c.in_ok-map.ensures in
+    let o = c.in_ok-around.ensures in
+    let q = c.in_ok-query.ensures in
+    let l = c.in_ok-limits.ensures in
+    let g = c.in_ok-slots.ensures in
+    let p = c.in_ok-placed.ensures in
+    whole_sheet m.answer o.answer q.answer l.answer g.answer p.answer _ refl (omega (arith, p.answer.inside)) c.requires.obstacle_room c.requires.place_room
