@@ -14,8 +14,8 @@ returns c =
     let at = c.args.at in
     let first : at ≡ at + 0 = omega arith in
     rw (
-      edge_stored w at 0 _ (c.edge.ensures ∙ ap (λ (i : ℕ). signed_of (get_or w i 0)) first) (c.type_inv.words (at + 0)),
-      edge_stored w at 1 _ c.edge-2.ensures (c.type_inv.words (at + 1)),
-      edge_stored w at 2 _ c.edge-3.ensures (c.type_inv.words (at + 2)),
-      edge_stored w at 3 _ c.edge-4.ensures (c.type_inv.words (at + 3)),
+      edge_stored w at 0 _ (c.edge.ensures ∙ ap (λ (i : ℕ). signed_of (get_or w i 0)) first),
+      edge_stored w at 1 _ c.edge-2.ensures,
+      edge_stored w at 2 _ c.edge-3.ensures,
+      edge_stored w at 3 _ c.edge-4.ensures,
     )
