@@ -39,11 +39,11 @@ module _ (m : Map) (obs : List ℤ) (w : Rect) (b : Bounds) (v₀ : List ℤ) (n
     laid₁ : RectsStamped w b (drop ((x + 1) * (h + 1)) v₀) [] v₁
     laid₁ = cleared_laid w b ((x + 1) * (h + 1)) v₀ v₁ entries_is room e₁
 
-    pub asks_terrain : ((0 < m.across) × ((m.across ≤ 1024) × (length m.cells ≤ m.across * 1024))) × (Setting (x + 1) w b × Open w b v₁ (length m.cells))
+    pub asks_terrain : ((0 < m.across) × ((m.across ≤ 1024) × (length m.cells ≤ m.across * 1024))) × Open w b v₁ (length m.cells)
     asks_terrain =
         let k = mapped m p.map_fits_lem in
         let q = mapped_cells m k in
-        ((omega arith, (k.across_le, q.0)), (setting, record { rest = drop ((x + 1) * (h + 1)) v₀; rects = []; laid = laid₁; few = omega arith }))
+        ((omega arith, (k.across_le, q.0)), record { rest = drop ((x + 1) * (h + 1)) v₀; rects = []; laid = laid₁; few = omega arith })
 
     module _ (v₂ : List ℤ)
         (f₂ : (rest : List ℤ) (rs : List Rect) → RectsStamped w b rest rs v₁ → RectsStamped w b rest (shut_cells m (length m.cells) ++ rs) v₂)
@@ -56,10 +56,10 @@ module _ (m : Map) (obs : List ℤ) (w : Rect) (b : Bounds) (v₀ : List ℤ) (n
             let q = mapped_cells m (mapped m p.map_fits_lem) in
             omega (arith, length-append (shut_cells m (length m.cells)) [], cells_few m (length m.cells))
 
-        pub asks_obstacles : (length obs ≡ length (rects_of obs) * 4) × (Setting (x + 1) w b × Open w b v₂ (length (rects_of obs)))
+        pub asks_obstacles : (length obs ≡ length (rects_of obs) * 4) × Open w b v₂ (length (rects_of obs))
         asks_obstacles =
             let o = obstacles_whole obs p.obstacles in
-            (o.0, (setting, record { rest = drop ((x + 1) * (h + 1)) v₀; rects = shut_cells m (length m.cells) ++ []; laid = laid₂; few = omega (arith, few₂) }))
+            (o.0, record { rest = drop ((x + 1) * (h + 1)) v₀; rects = shut_cells m (length m.cells) ++ []; laid = laid₂; few = omega (arith, few₂) })
 
         module _ (v₃ : List ℤ) (f₃ : (rest : List ℤ) (rs : List Rect) → RectsStamped w b rest rs v₂ → RectsStamped w b rest (rects_of obs ++ rs) v₃) where
           laid₃ : RectsStamped w b (drop ((x + 1) * (h + 1)) v₀) (laid_all m (rects_of obs)) v₃

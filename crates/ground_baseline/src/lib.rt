@@ -56,52 +56,51 @@ impl Cells<'_> {
     }
 }
 
-// Lays a rectangle onto the counts.
-fn stamp_expanded(counts: &mut [i32], stride: usize, r: Rect, window: Rect, mover: Bounds)
-    requires { Setting stride window mover × Open window mover counts.old 1 }
-    ensures { (rest : List ℤ) (rs : List Rect) → RectsStamped window mover rest rs counts.old
-        → RectsStamped window mover rest (r ∷ rs) counts.new }
-{
-    let p = ground_rects::clip(r, window, mover);
-    ground_counts::add_rect(counts, stride, p);
-}
-
-// Lays each unwalkable cell onto the counts.
-fn stamp_terrain_blockers(
-    counts: &mut [i32],
-    stride: usize,
-    map: &Cells<'_>,
+// What rectangles are laid for: a window, and the mover that they keep off its centres. A row of the counts has so many entries.
+#[derive(Clone, Copy)]
+struct Layer {
     window: Rect,
     mover: Bounds,
-)
-    requires { ((0 < map.now.across) × ((map.now.across ≤ 1024) × (length map.now.cells.now ≤ map.now.across * 1024)))
-        × (Setting stride window mover × Open window mover counts.old (length map.now.cells.now)) }
-    ensures { (rest : List ℤ) (rs : List Rect) → RectsStamped window mover rest rs counts.old
-        → RectsStamped window mover rest (shut_cells (map_of map.now) (length map.now.cells.now) ++ rs) counts.new }
-{
-    for (i, cell) in map.cells.iter().enumerate() {
-        if *cell == 0 {
-            stamp_expanded(counts, stride, map.rect(i), window, mover);
+    stride: usize,
+    ghost setting: { Setting stride window mover },
+}
+
+impl Layer {
+    // Lays a rectangle onto the counts.
+    fn stamp_expanded(&self, counts: &mut [i32], r: Rect)
+        requires { Open self.now.window self.now.mover counts.old 1 }
+        ensures { (rest : List ℤ) (rs : List Rect) → RectsStamped self.now.window self.now.mover rest rs counts.old
+            → RectsStamped self.now.window self.now.mover rest (r ∷ rs) counts.new }
+    {
+        let p = ground_rects::clip(r, self.window, self.mover);
+        ground_counts::add_rect(counts, self.stride, p);
+    }
+
+    // Lays each unwalkable cell onto the counts.
+    fn stamp_terrain_blockers(&self, counts: &mut [i32], map: &Cells<'_>)
+        requires { ((0 < map.now.across) × ((map.now.across ≤ 1024) × (length map.now.cells.now ≤ map.now.across * 1024)))
+            × Open self.now.window self.now.mover counts.old (length map.now.cells.now) }
+        ensures { (rest : List ℤ) (rs : List Rect) → RectsStamped self.now.window self.now.mover rest rs counts.old
+            → RectsStamped self.now.window self.now.mover rest
+            (shut_cells (map_of map.now) (length map.now.cells.now) ++ rs) counts.new }
+    {
+        for (i, cell) in map.cells.iter().enumerate() {
+            if *cell == 0 {
+                self.stamp_expanded(counts, map.rect(i));
+            }
         }
     }
-}
 
-// Lays each obstacle onto the counts.
-fn stamp_obstacles(
-    counts: &mut [i32],
-    stride: usize,
-    obstacles: &[i32],
-    window: Rect,
-    mover: Bounds,
-)
-    requires { (length obstacles.now ≡ length (rects_of obstacles.now) * 4)
-        × (Setting stride window mover × Open window mover counts.old (length (rects_of obstacles.now))) }
-    ensures { (rest : List ℤ) (rs : List Rect) → RectsStamped window mover rest rs counts.old
-        → RectsStamped window mover rest (rects_of obstacles.now ++ rs) counts.new }
-{
-    for i in 0..obstacles.len() / SIDES {
-        let r = ground_rects::rect_at(obstacles, i);
-        stamp_expanded(counts, stride, r, window, mover);
+    // Lays each obstacle onto the counts.
+    fn stamp_obstacles(&self, counts: &mut [i32], obstacles: &[i32])
+        requires { (length obstacles.now ≡ length (rects_of obstacles.now) * 4)
+            × Open self.now.window self.now.mover counts.old (length (rects_of obstacles.now)) }
+        ensures { (rest : List ℤ) (rs : List Rect) → RectsStamped self.now.window self.now.mover rest rs counts.old
+            → RectsStamped self.now.window self.now.mover rest (rects_of obstacles.now ++ rs) counts.new }
+    {
+        for i in 0..obstacles.len() / SIDES {
+            self.stamp_expanded(counts, ground_rects::rect_at(obstacles, i));
+        }
     }
 }
 
@@ -169,8 +168,13 @@ pub fn mark_baseline(
     let stride = ground_rects::width(window) + 1;
     let n = stride * (ground_rects::height(window) + 1);
     base_areas::clear(counts, n, 0);
-    stamp_terrain_blockers(counts, stride, map, window, mover);
-    stamp_obstacles(counts, stride, obstacles, window, mover);
+    let layer = Layer {
+        window,
+        mover,
+        stride,
+    };
+    layer.stamp_terrain_blockers(counts, map);
+    layer.stamp_obstacles(counts, obstacles);
     ground_counts::finish(counts, stride, n);
     blocked_centers(baseline, counts, map, window, mover);
     base_areas::clear(counts, n, 0);

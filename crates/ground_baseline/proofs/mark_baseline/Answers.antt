@@ -4,7 +4,7 @@ use native.Mathlib.Omega.{arith}
 use lib.ListN.{length}
 use Rattle.ground_rects.proofs.Windows.{framed}
 use Rattle.ground_baseline.specs.Baseline.{map_of}
-use Rattle.ground_baseline.proofs.Stages.{room, asks_terrain, asks_obstacles, asks_finish, asks_centres, cleared, marked}
+use Rattle.ground_baseline.proofs.Stages.{room, setting, asks_terrain, asks_obstacles, asks_finish, asks_centres, cleared, marked}
 use Rattle.ground_baseline.proofs.mark_baseline.Goals as goal
 
 pub width-stride-requires : goal.width-stride-requires
@@ -34,6 +34,14 @@ clear-requires c =
     room (map_of a.map.now) a.obstacles.now a.window a.mover a.counts.now
     (length a.baseline.now) c.width-stride.result c.height.result c.requires c.width-stride.ensures.0
     c.height.ensures.0
+
+pub invariant_of-layer : goal.invariant_of-layer
+invariant_of-layer c =
+    let a = c.args in record {
+      setting = setting (map_of a.map.now) a.obstacles.now a.window a.mover
+          a.counts.now (length a.baseline.now) c.width-stride.result c.height.result c.requires c.width-stride.ensures.0
+          c.height.ensures.0;
+    }
 
 pub stamp_terrain_blockers-requires : goal.stamp_terrain_blockers-requires
 stamp_terrain_blockers-requires c =

@@ -1,4 +1,4 @@
--- `ground_baseline::stamp_obstacles` meets its contract. Before the turn at i, the first i obstacles have been laid.
+-- `ground_baseline::Layer::stamp_obstacles` meets its contract. Before the turn at i, the first i obstacles have been laid.
 use mathlib.Core.Path.{◌≡◌, refl, ◌∙◌}
 use mathlib.Core.List.{List, ◌∷◌, ◌++◌}
 use Prim.Native.Nat.{ℕ, ◌+◌, ◌*◌, ◌≤◌, ◌<◌}
@@ -14,7 +14,7 @@ use Rattle.ground_rects.specs.Spans.{nth_rect}
 use Rattle.ground_rects.proofs.Rows.{rects_at}
 use Rattle.ground_baseline.specs.Stamps.{RectsStamped, Open}
 use Rattle.ground_baseline.proofs.Stamps.{laid_last}
-use Rattle.ground_baseline.proofs.stamp_obstacles.Given as goal
+use Rattle.ground_baseline.proofs.Layer.stamp_obstacles.Given as goal
 
 pub record Sweep (v₀ : List ℤ) (obs : List ℤ) (w : Rect) (m : Bounds) (v : List ℤ) (i : ℕ) : Type 0 where
   pub upto : i ≤ length (rects_of obs)
@@ -45,4 +45,4 @@ module _ (v₀ : List ℤ) (obs : List ℤ) (w : Rect) (m : Bounds) (whole : len
     }
 
 abbrev pub invariant-loop-i : goal.invariant-loop-i
-invariant-loop-i l = Sweep l.initial.counts l.obstacles l.window l.mover l.counts l.i
+invariant-loop-i l = Sweep l.initial.counts l.obstacles l.self.window l.self.mover l.counts l.i

@@ -1,4 +1,4 @@
--- `ground_baseline::stamp_terrain_blockers` meets its contract. Before the turn at i, the unwalkable of the first i cells have been laid.
+-- `ground_baseline::Layer::stamp_terrain_blockers` meets its contract. Before the turn at i, the unwalkable of the first i cells have been laid.
 use mathlib.Core.Path.{◌≡◌, refl, sym, ◌∙◌}
 use mathlib.Core.List.{List, ◌∷◌, ◌++◌}
 use Prim.Native.Nat.{ℕ, ◌+◌, ◌<◌}
@@ -12,7 +12,7 @@ use Rattle.base_model.specs.declared.Bounds.{Bounds}
 use Rattle.ground_baseline.specs.Baseline.{Map, map_of, cell_rect}
 use Rattle.ground_baseline.specs.Stamps.{shut_cells, RectsStamped, Open}
 use Rattle.ground_baseline.proofs.Stamps.{laid_last, cells_none, cells_shut, cells_open, cells_few, get_d_same}
-use Rattle.ground_baseline.proofs.stamp_terrain_blockers.Given as goal
+use Rattle.ground_baseline.proofs.Layer.stamp_terrain_blockers.Given as goal
 
 pub record Sweep (v₀ : List ℤ) (c : Map) (w : Rect) (m : Bounds) (v : List ℤ) (i : ℕ) : Type 0 where
   pub size : length v ≡ length v₀
@@ -48,4 +48,4 @@ module _ (v₀ : List ℤ) (c : Map) (w : Rect) (m : Bounds) where
     }
 
 abbrev pub invariant-loop-i : goal.invariant-loop-i
-invariant-loop-i l = Sweep l.initial.counts (map_of l.map) l.window l.mover l.counts l.i
+invariant-loop-i l = Sweep l.initial.counts (map_of l.map) l.self.window l.self.mover l.counts l.i
