@@ -1,22 +1,20 @@
 // A lent row of placements as flat rows of numbers and edges.
 #![tactic(auto)]
 
-ghost use Rattle.std.specs.Prelude.{◌≡◌, map, ◌++◌, ◌*◌, ◌≤◌, length, take, drop};
+ghost use Rattle.std.specs.Prelude.{◌≡◌, map, ◌++◌, ◌*◌, ◌≤◌, length, drop};
 ghost use Rattle.base_laws.specs.Lists.{flat};
 ghost use Rattle.walls_rows.specs.Rows.{place_numbers, both_of, rows_of};
 
-use base_model::Placement;
-use walls_rows::{Rows, at_most, both, lay, no_edges, no_numbers};
+use base_model::{EDGES, NUMBERS, Placement};
+use walls_rows::{MOST_LAID, Rows, at_most, lay};
 
-// The first n placements.
-fn lay_all(places: &[Placement], n: usize, numbers: &mut [u32], edges: &mut [i32])
-    requires { (n ≤ length places.now) × ((4 * n ≤ length numbers.old) × (8 * n ≤ length edges.old)) }
-    ensures { (numbers.new ≡ flat (map place_numbers (take n places.now)) ++ drop (4 * n) numbers.old)
-        × (edges.new ≡ flat (map both_of (take n places.now)) ++ drop (8 * n) edges.old) }
+fn lay_all(places: &[Placement], numbers: &mut [u32], edges: &mut [i32])
+    requires { (4 * length places.now ≤ length numbers.old) × (8 * length places.now ≤ length edges.old) }
+    ensures { (numbers.new ≡ flat (map place_numbers places.now) ++ drop (4 * length places.now) numbers.old)
+        × (edges.new ≡ flat (map both_of places.now) ++ drop (8 * length places.now) edges.old) }
 {
-    let mut i = 0;
-    while i < n {
-        i = lay(numbers, edges, i, places[i]);
+    for (i, p) in places.iter().enumerate() {
+        lay(numbers, edges, i, *p);
     }
 }
 
@@ -24,8 +22,8 @@ fn lay_all(places: &[Placement], n: usize, numbers: &mut [u32], edges: &mut [i32
 pub fn rows_of(places: &[Placement]) -> Rows
     ensures { result ≡ rows_of places.now }
 {
-    let mut numbers = no_numbers();
-    let mut edges = no_edges();
-    lay_all(places, at_most(places.len()), &mut numbers, &mut edges);
-    both(numbers, edges)
+    let mut numbers = [0; NUMBERS * MOST_LAID];
+    let mut edges = [0; EDGES * MOST_LAID];
+    lay_all(&places[..at_most(places.len())], &mut numbers, &mut edges);
+    Rows { numbers, edges }
 }

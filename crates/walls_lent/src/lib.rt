@@ -44,14 +44,13 @@ impl Plan<'_> {
 }
 
 // Nothing of it where it is too short for all of the placements, so that a call that sees only the first ones turns it away too.
+#[tactic(auto, using(crate::proofs::Cut::lent_few, crate::proofs::Cut::lent_long, crate::proofs::Cut::lent_short))]
 pub fn lists_lent(lists: usize, places: usize) -> usize
     ensures { result ≡ lent lists places }
 {
-    if places <= MOST_LAID {
-        return lists;
+    if places <= MOST_LAID || places <= lists / SLOTS {
+        lists
+    } else {
+        0
     }
-    if lists / SLOTS < places {
-        return 0;
-    }
-    lists
 }

@@ -5,7 +5,7 @@ ghost use Rattle.std.specs.Prelude.{◌≡◌, ◌+◌, ◌*◌, ◌≤◌, min,
 ghost use Rattle.base_laws.specs.Fill.{over};
 ghost use Rattle.walls_rows.specs.Rows.{place_numbers, rect_edges, both_of};
 
-use base_model::{EDGES, NUMBERS, Placement, Rect};
+use base_model::{EDGES, NUMBERS, Placement, Rect, SIDES};
 
 // How many placements are laid at most: one more than a call takes, so that a call sees where there are too many.
 pub const MOST_LAID: usize = 6145;
@@ -16,68 +16,40 @@ pub struct Rows {
     pub edges: [i32; EDGES * MOST_LAID],
 }
 
-fn put_numbers(numbers: &mut [u32], at: usize, p: Placement)
-    requires { at + 4 ≤ length numbers.old }
-    ensures { numbers.new ≡ over numbers.old at (place_numbers p) }
+// A part is stored from `at` on.
+fn put<T: Copy>(row: &mut [T], at: usize, part: &[T])
+    requires { at + length part.now ≤ length row.old }
+    ensures { row.new ≡ over row.old at part.now }
 {
-    let tile = p.tile;
-    numbers[at] = p.spec;
-    numbers[at + 1] = p.group;
-    numbers[at + 2] = tile.x;
-    numbers[at + 3] = tile.y;
+    row[at..at + part.len()].copy_from_slice(part);
 }
 
-fn put_edges(edges: &mut [i32], at: usize, r: Rect)
-    requires { at + 4 ≤ length edges.old }
-    ensures { edges.new ≡ over edges.old at (rect_edges r) }
+#[tactic(auto, unfolding(crate::specs::Rows::place_numbers))]
+fn numbers_of(p: Placement) -> [u32; NUMBERS]
+    ensures { result ≡ place_numbers p }
 {
-    let left = r.left;
-    let top = r.top;
-    let right = r.right;
-    let bottom = r.bottom;
-    edges[at] = left;
-    edges[at + 1] = top;
-    edges[at + 2] = right;
-    edges[at + 3] = bottom;
+    [p.spec, p.group, p.tile.x, p.tile.y]
 }
 
-// One placement's numbers and edges; the next index.
-pub fn lay(numbers: &mut [u32], edges: &mut [i32], i: usize, p: Placement) -> usize
+fn edges_of(r: Rect) -> [i32; SIDES]
+    ensures { result ≡ rect_edges r }
+{
+    [r.left, r.top, r.right, r.bottom]
+}
+
+// Placement i: its numbers and its edges.
+pub fn lay(numbers: &mut [u32], edges: &mut [i32], i: usize, p: Placement)
     requires { (4 * i + 4 ≤ length numbers.old) × (8 * i + 8 ≤ length edges.old) }
-    ensures { (result ≡ i + 1)
-        × ((numbers.new ≡ over numbers.old (4 * i) (place_numbers p))
-        × (edges.new ≡ over edges.old (8 * i) (both_of p))) }
+    ensures { (numbers.new ≡ over numbers.old (4 * i) (place_numbers p)) × (edges.new ≡ over edges.old (8 * i) (both_of p)) }
 {
     let at = EDGES * i;
-    put_numbers(numbers, NUMBERS * i, p);
-    put_edges(edges, at, p.footprint);
-    put_edges(edges, at + 4, p.collision);
-    i + 1
-}
-
-pub fn no_numbers() -> [u32; NUMBERS * MOST_LAID]
-    ensures { result ≡ replicate 24580 0 }
-{
-    [0u32; NUMBERS * MOST_LAID]
-}
-
-pub fn no_edges() -> [i32; EDGES * MOST_LAID]
-    ensures { result ≡ replicate 49160 (pos 0) }
-{
-    [0i32; EDGES * MOST_LAID]
+    put(numbers, NUMBERS * i, &numbers_of(p));
+    put(edges, at, &edges_of(p.footprint));
+    put(edges, at + SIDES, &edges_of(p.collision));
 }
 
 pub fn at_most(n: usize) -> usize
     ensures { result ≡ min n 6145 }
 {
-    if n <= MOST_LAID {
-        return n;
-    }
-    MOST_LAID
-}
-
-pub fn both(numbers: [u32; NUMBERS * MOST_LAID], edges: [i32; EDGES * MOST_LAID]) -> Rows
-    ensures { result ≡ record { numbers = numbers; edges = edges } }
-{
-    Rows { numbers, edges }
+    n.min(MOST_LAID)
 }

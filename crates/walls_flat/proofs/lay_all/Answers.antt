@@ -6,13 +6,11 @@ use Rattle.walls_rows.proofs.Turns.{turn_none, turn_more, turn_all}
 use Rattle.walls_flat.proofs.lay_all.Goals as goal
 
 pub loop-i-init : goal.loop-i-init
-loop-i-init c = turn_none _ _ _ _
+loop-i-init c = turn_none _ _ _
 
 pub loop-i-preserved : goal.loop-i-preserved
 unfolding no_place rect
-loop-i-preserved c =
-    turn_more _ _ _ _ c.requires.0 c.requires.1.0 c.requires.1.1 _ _ _ c.loop-i-test.true c.loop-i.invariant _ _ _
-    (record { next = c.lay-i.ensures.0; numbers = c.lay-i.ensures.1.0; edges = c.lay-i.ensures.1.1 })
+loop-i-preserved c = turn_more _ _ _ c.requires.0 c.requires.1 _ _ _ c.loop-i-test.true c.loop-i.invariant _ _ c.lay.ensures
 
 pub returns : goal.returns
-returns c = turn_all _ _ _ _ _ _ _ (omega arith) c.loop-i.invariant
+returns c = turn_all _ _ _ _ _ _ (omega arith) c.loop-i.invariant

@@ -1,10 +1,6 @@
 -- `walls_flat::lay_all`: the first i placements are laid, and the rows are as long as they were.
-use Rattle.std.proofs.Common.{◌-◌}
 use Rattle.walls_rows.proofs.Turns.{Turn}
 use Rattle.walls_flat.proofs.lay_all.Given as goal
 
 abbrev pub invariant-loop-i : goal.invariant-loop-i
-invariant-loop-i l = Turn l.fn.places l.n l.fn.numbers l.fn.edges l.i l.numbers l.edges
-
-abbrev pub decreases-loop-i : goal.decreases-loop-i
-decreases-loop-i l = l.n - l.i
+invariant-loop-i l = Turn l.places l.fn.numbers l.fn.edges l.i l.numbers l.edges
