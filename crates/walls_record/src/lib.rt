@@ -3,10 +3,12 @@
 
 ghost use Rattle.std.specs.Prelude.{◌≡◌, ◌++◌, ◌≤◌, length, drop};
 ghost use Rattle.base_model.specs.Answers.{reply_of};
-ghost use Rattle.walls_numbers.specs.Numbers.{record_from, one_where, record_numbers};
+ghost use Rattle.base_model.specs.declared.Record as declared;
+ghost use Rattle.rule_calls.specs.Calls.{record_or};
+ghost use Rattle.walls_numbers.specs.Numbers.{record_from, record_numbers};
 ghost use Rattle.walls_numbers.specs.Lent.{record_in, numbers_left};
 
-use base_model::{Answer, LAYOUTS, Record, Reply, SLOTS, no_record};
+use base_model::{LAYOUTS, Record, Refusal, SLOTS, no_record};
 use walls_numbers::RECORD_NUMBERS;
 
 // Where the parts of a record stand among its numbers.
@@ -23,12 +25,12 @@ fn record_of(rec: &[u32]) -> Record
     requires { 50 ≤ length rec.now }
     ensures { result ≡ record_from rec.now }
 {
-    let mut routes = [0u32; LAYOUTS];
-    let mut lengths = [0u32; SLOTS];
-    let mut nexts = [0u32; SLOTS];
-    base_areas::copy_u32(&mut routes, &rec[ROUTES..LENGTHS], LAYOUTS);
-    base_areas::copy_u32(&mut lengths, &rec[LENGTHS..NEXTS], SLOTS);
-    base_areas::copy_u32(&mut nexts, &rec[NEXTS..RECORD_NUMBERS], SLOTS);
+    let mut routes = [0; LAYOUTS];
+    let mut lengths = [0; SLOTS];
+    let mut nexts = [0; SLOTS];
+    routes.copy_from_slice(&rec[ROUTES..LENGTHS]);
+    lengths.copy_from_slice(&rec[LENGTHS..NEXTS]);
+    nexts.copy_from_slice(&rec[NEXTS..RECORD_NUMBERS]);
     Record {
         reason: rec[0],
         evaluations: rec[1],
@@ -36,9 +38,9 @@ fn record_of(rec: &[u32]) -> Record
         layouts: rec[3],
         lists: rec[4],
         pending: rec[PENDING] == 1,
-        routes: routes,
-        lengths: lengths,
-        nexts: nexts,
+        routes,
+        lengths,
+        nexts,
     }
 }
 
@@ -46,22 +48,10 @@ fn record_of(rec: &[u32]) -> Record
 pub fn record_in(rec: &[u32]) -> Record
     ensures { result ≡ record_in rec.now }
 {
-    if rec.len() < RECORD_NUMBERS {
-        return no_record();
-    }
-    if rec[PENDING] > 1 {
+    if rec.len() < RECORD_NUMBERS || rec[PENDING] > 1 {
         return no_record();
     }
     record_of(rec)
-}
-
-fn bit(b: bool) -> u32
-    ensures { result ≡ one_where b }
-{
-    if b {
-        return 1;
-    }
-    0
 }
 
 // The first fifty numbers become those of the record.
@@ -75,27 +65,22 @@ fn put_record(rec: &mut [u32], r: Record)
         r.placements,
         r.layouts,
         r.lists,
-        bit(r.pending),
+        u32::from(r.pending),
     ];
-    let routes = r.routes;
-    let lengths = r.lengths;
-    let nexts = r.nexts;
-    base_areas::copy_u32(&mut rec[0..ROUTES], &head, ROUTES);
-    base_areas::copy_u32(&mut rec[ROUTES..LENGTHS], &routes, LAYOUTS);
-    base_areas::copy_u32(&mut rec[LENGTHS..NEXTS], &lengths, SLOTS);
-    base_areas::copy_u32(&mut rec[NEXTS..RECORD_NUMBERS], &nexts, SLOTS);
+    rec[..ROUTES].copy_from_slice(&head);
+    rec[ROUTES..LENGTHS].copy_from_slice(&r.routes);
+    rec[LENGTHS..NEXTS].copy_from_slice(&r.lengths);
+    rec[NEXTS..RECORD_NUMBERS].copy_from_slice(&r.nexts);
 }
 
 // Lays the record where the call was accepted and there is room.
-pub fn put_reply(rec: &mut [u32], reply: Reply)
-    ensures { rec.new ≡ numbers_left (reply_of reply.answer) reply.rec rec.old }
+pub fn put_reply(rec: &mut [u32], reply: Result<Record, Refusal>)
+    ensures { (before : declared.Record) → rec.new ≡ numbers_left (reply_of reply) (record_or before reply) rec.old }
 {
-    let answer = reply.answer;
-    if rec.len() < RECORD_NUMBERS {
+    let Ok(r) = reply else {
         return;
+    };
+    if rec.len() >= RECORD_NUMBERS {
+        put_record(rec, r);
     }
-    if let Answer::Refused(_) = answer {
-        return;
-    }
-    put_record(rec, reply.rec);
 }

@@ -1,38 +1,44 @@
 -- `walls_record::put_record` meets its contract: the rows are laid one after the other.
-use mathlib.Core.Path.{refl, ◌∙◌, ap}
-use mathlib.Core.List.{[], ◌∷◌, ◌++◌}
-use Prim.Native.Nat.{ℕ}
+use Prim.Native.Nat.{ℕ, ◌+◌}
+use mathlib.Core.Path.{◌≡◌, refl, sym, ◌∙◌, ap}
+use mathlib.Core.Bool.{Bool, true, false}
+use mathlib.Core.List.{List, ◌∷◌, [], ◌++◌, append_assoc}
 use native.Mathlib.Omega.{arith}
-use lib.ListN.{drop, length-append}
-use borrow.Author.Rules.{rules}
-use Rattle.walls_numbers.specs.Numbers.{record_numbers}
-use Rattle.walls_numbers.proofs.Fifty.{record_shape, next_row}
+use lib.ListN.{length, take, drop, length-append}
+use lib.Seq.{take_at, drop_at, drop-drop}
+use borrow.Rule.Slice.PartMut.{put_mid}
+use mir.Val.{bool_byte}
+use Rattle.walls_numbers.specs.Numbers.{one_where, record_numbers}
 use Rattle.walls_record.proofs.put_record.Goals as goal
 
-pub copy_u32-requires-2 : goal.copy_u32-requires-2
-copy_u32-requires-2 c =
-    (search rules, omega (arith, (record_shape c.args.r _ c.well_formed.1.0).routes))
+-- a row copied into the part that is lent after the rows before it
+next_row : (l xs row : List ℕ) (at n : ℕ) {x ys : List ℕ} → length xs ≡ at → x ≡ xs ++ drop at l → ys ≡ row → put_mid at n x ys ≡ (xs ++ row) ++ drop (at + n) l
+next_row l xs row at n {x} {ys} k e f =
+    ap (λ (q : List ℕ). take at x ++ (q ++ drop n (drop at x))) f
+    ∙ ap (λ (q : List ℕ). take at q ++ (row ++ drop n (drop at q))) e
+    ∙ ap (λ (q : List ℕ). q ++ (row ++ drop n (drop at (xs ++ drop at l)))) (take_at xs (drop at l) at k)
+    ∙ ap (λ (q : List ℕ). xs ++ (row ++ drop n q)) (drop_at xs (drop at l) at k)
+    ∙ ap (λ (q : List ℕ). xs ++ (row ++ q)) (drop-drop n at l)
+    ∙ sym (append_assoc xs row (drop (at + n) l))
 
-pub copy_u32-requires-3 : goal.copy_u32-requires-3
-copy_u32-requires-3 c =
-    (search rules, omega (arith, (record_shape c.args.r _ c.well_formed.1.0).lengths))
-
-pub copy_u32-requires-4 : goal.copy_u32-requires-4
-copy_u32-requires-4 c =
-    (search rules, omega (arith, (record_shape c.args.r _ c.well_formed.1.0).nexts))
+one_is : (b : Bool) → bool_byte b ≡ one_where b
+unfolding one_where
+one_is true = refl
+one_is false = refl
 
 pub returns : goal.returns
 unfolding record_numbers
 returns c =
     let r = c.args.r in
     let l = c.args.rec.now in
-    let p = c.requires in
-    let g = record_shape r _ c.well_formed.1.0 in
-    let first = r.reason ∷ r.evaluations ∷ r.placements ∷ r.layouts ∷ r.lists ∷ c.bit.result ∷ [] in
+    let first = r.reason ∷ r.evaluations ∷ r.placements ∷ r.layouts ∷ r.lists ∷ c.from.result ∷ [] in
+    let a : length r.routes ≡ 32 = omega arith in
+    let b : length r.lengths ≡ 6 = omega arith in
+    let d : length r.nexts ≡ 6 = omega arith in
     let wide = length-append first r.routes in
     let wider = length-append (first ++ r.routes) r.lengths in
-    let one = next_row l [] first 0 6 refl refl (omega arith) refl c.copy_u32.ensures in
-    let two = next_row l first r.routes 6 32 refl g.routes (omega arith) one c.copy_u32-2.ensures in
-    let three = next_row l (first ++ r.routes) r.lengths 38 6 (omega (arith, g.routes)) g.lengths (omega arith) two c.copy_u32-3.ensures in
-    next_row l (first ++ r.routes ++ r.lengths) r.nexts 44 6 (omega (arith, g.routes, g.lengths)) g.nexts (omega arith) three c.copy_u32-4.ensures
-    ∙ ap (λ (b : ℕ). (r.reason ∷ r.evaluations ∷ r.placements ∷ r.layouts ∷ r.lists ∷ b ∷ []) ++ r.routes ++ r.lengths ++ r.nexts ++ drop 50 l) c.bit.ensures
+    let one = ap (λ (q : List ℕ). q ++ drop 6 l) c.copy_from_slice.ensures.after in
+    let two = next_row l first r.routes 6 32 refl one c.copy_from_slice-2.ensures.after in
+    let three = next_row l (first ++ r.routes) r.lengths 38 6 (omega arith) two c.copy_from_slice-3.ensures.after in
+    next_row l (first ++ r.routes ++ r.lengths) r.nexts 44 6 (omega arith) three c.copy_from_slice-4.ensures.after
+    ∙ ap (λ (b : ℕ). (r.reason ∷ r.evaluations ∷ r.placements ∷ r.layouts ∷ r.lists ∷ b ∷ []) ++ r.routes ++ r.lengths ++ r.nexts ++ drop 50 l) (c.from.ensures ∙ one_is r.pending)
