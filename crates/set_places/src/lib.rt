@@ -8,30 +8,6 @@ ghost use Rattle.set_places.specs.Groups.{of_group, taken, InRow, InGroup};
 use base_model::{NUMBERS, Query, RECTS, Rect};
 use std::cmp::Ordering;
 
-// The group of placement i.
-pub fn group_at(numbers: &[u32], i: usize) -> usize
-    requires { 4 * i + 4 ≤ length numbers.now }
-    ensures { result ≡ get_or numbers.now (4 * i + 1) 0 }
-{
-    numbers[i * NUMBERS + 1] as usize
-}
-
-// The footprint of placement i: the first of its two rectangles.
-pub fn footprint_at(edges: &[i32], i: usize) -> Rect
-    requires { 8 * i + 8 ≤ length edges.now }
-    ensures { result ≡ rect_at edges.now (8 * i) }
-{
-    ground_rects::rect_at(edges, i * RECTS)
-}
-
-// The collision rectangle of placement i: the second of its two rectangles.
-pub fn collision_at(edges: &[i32], i: usize) -> Rect
-    requires { 8 * i + 8 ≤ length edges.now }
-    ensures { result ≡ rect_at edges.now (8 * i + 4) }
-{
-    ground_rects::rect_at(edges, i * RECTS + 1)
-}
-
 // Placements lent flat: the slot counts of their groups, four numbers each (spec index, group, tile x, tile y), and eight edges each
 // (footprint, collision).
 #[derive(Clone, Copy)]
