@@ -169,7 +169,7 @@ pub fn points_length(query: Query, limits: Limits) -> usize
 }
 
 // Whether the areas have room for a search over so many placements.
-#[tactic(auto, unfolding(rule_calls::specs::Areas::store_fits, rule_calls::specs::Areas::points_length, crate::specs::Lengths::points_room))]
+#[tactic(auto, using(crate::proofs::Fits::points_room_is), unfolding(rule_calls::specs::Areas::store_fits))]
 pub fn store_fits(query: Query, limits: Limits, places: usize, room: StoreLengths) -> bool
     requires { (window_fits 8192 8192 query.window ≡ true) × ((limits.states ≤ 100000) × (limits.results ≤ 32)) }
     ensures { (i : Inputs) (a : areas.Store) → i.query ≡ query → length i.places ≡ places → StoreHas a room
