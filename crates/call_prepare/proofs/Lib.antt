@@ -1,3 +1,2 @@
-pub mod Refusing
-pub mod Preparing
+pub mod Apart
 pub mod Marking

@@ -5,183 +5,104 @@ ghost use Rattle.std.specs.Prelude.{◌≡◌, List, ℕ, length};
 ghost use Rattle.std.proofs.Math.Option.{none};
 ghost use Rattle.base_model.specs.Answers.{first, reply_of};
 ghost use Rattle.rule_routes.specs.Edges.{steps_of};
-ghost use Rattle.rule_calls.specs.Areas.{Work, work_in};
+ghost use Rattle.rule_calls.specs.Areas as areas;
 ghost use Rattle.rule_calls.specs.Calls.{prepare_checks, prepare_over, prepare_call};
 ghost use Rattle.call_lengths.specs.Lengths.{WorkHas};
-ghost use Rattle.call_prepare.specs.Prepare.{preparation};
+ghost use Rattle.call_lengths.specs.Lent.{work_of};
+ghost use Rattle.call_prepare.specs.Prepare.{preparation_in};
 
-use base_model::{Answer, Bounds, CELL, Position, Rect, Refusal};
-use call_lengths::WorkLengths;
+use base_model::{Bounds, CELL, Position, Rect, Refusal};
+use call_checks::ask;
+use call_lengths::{Work, WorkLengths};
+use ground_rects::in_window;
 use route_table::table_fits;
 
+// What is asked: the map's cells and obstacles, a window with its ends, and a mover.
+#[derive(Clone, Copy)]
+pub struct Preparing<'a> {
+    pub across: u32,
+    pub down: u32,
+    pub cells: &'a [u8],
+    pub obstacles: &'a [i32],
+    pub window: Rect,
+    pub start: Position,
+    pub end: Position,
+    pub mover: Bounds,
+}
+
 // Refusals 1 to 6, for areas of these lengths.
-fn prepare_checks(
-    across: u32,
-    down: u32,
-    cells: &[u8],
-    obstacles: &[i32],
-    window: Rect,
-    start: Position,
-    end: Position,
-    mover: Bounds,
-    baseline: usize,
-    room: WorkLengths,
-) -> Answer
-    ensures { (b : List ℕ) (a : Work) → length b ≡ baseline → WorkHas a room
-        → reply_of result ≡ first (prepare_checks (preparation across down cells.now obstacles.now window start end mover) b
-        a) }
+fn prepare_checks(asked: &Preparing<'_>, baseline: usize, room: WorkLengths) -> Result<(), Refusal>
+    ensures { (b : List ℕ) (a : areas.Work) → length b ≡ baseline → WorkHas a room
+        → reply_of result ≡ first (prepare_checks (preparation_in asked.now) b a) }
 {
-    if !ground_baseline::map_fits(across, down, cells) {
-        return Answer::Refused(Refusal::MapInvalid);
-    }
-    if !ground_rects::window_fits(window, CELL * across, CELL * down) {
-        return Answer::Refused(Refusal::WindowInvalid);
-    }
-    if !ground_rects::in_window(window, start) {
-        return Answer::Refused(Refusal::EndOutside);
-    }
-    if !ground_rects::in_window(window, end) {
-        return Answer::Refused(Refusal::EndOutside);
-    }
-    if !ground_rects::small(mover) {
-        return Answer::Refused(Refusal::BoundTooLarge);
-    }
-    if !ground_baseline::obstacles_fit(obstacles) {
-        return Answer::Refused(Refusal::ObstacleInvalid);
-    }
-    if baseline < ground_rects::width(window) * ground_rects::height(window) {
-        return Answer::Refused(Refusal::AreaTooShort);
-    }
-    if !call_lengths::work_fits(window, room) {
-        return Answer::Refused(Refusal::AreaTooShort);
-    }
-    Answer::Done
+    let window = asked.window;
+    let mapped = ground_baseline::map_fits(asked.across, asked.down, asked.cells);
+    ask(mapped, Refusal::MapInvalid)?;
+    let wide = ground_rects::window_fits(window, CELL * asked.across, CELL * asked.down);
+    ask(wide, Refusal::WindowInvalid)?;
+    let ends = in_window(window, asked.start) && in_window(window, asked.end);
+    ask(ends, Refusal::EndOutside)?;
+    ask(ground_rects::small(asked.mover), Refusal::BoundTooLarge)?;
+    let filled = ground_baseline::obstacles_fit(asked.obstacles);
+    ask(filled, Refusal::ObstacleInvalid)?;
+    let long = call_lengths::centres(window) <= baseline && call_lengths::work_fits(window, room);
+    ask(long, Refusal::AreaTooShort)
 }
 
 // What `prepare` does once 1 to 6 pass: marks the baseline, then looks at 7 to 9 over it.
 fn prepare_checked(
-    across: u32,
-    down: u32,
-    cells: &[u8],
-    obstacles: &[i32],
-    window: Rect,
-    start: Position,
-    end: Position,
-    mover: Bounds,
+    asked: &Preparing<'_>,
     steps: &[i32],
     baseline: &mut [u8],
-    counts: &mut [i32],
-    map: &mut [u8],
-    queue: &mut [u32],
-    predecessors: &mut [u32],
-    route: &mut [u32],
-) -> Answer
-    requires { first (prepare_checks (preparation across down cells.now obstacles.now window start end mover) baseline.old
-        (work_in counts.old map.old queue.old predecessors.old route.old)) ≡ none }
-    ensures { prepare_over (steps_of steps.now)
-        (preparation across down cells.now obstacles.now window start end mover)
-        baseline.old
-        (work_in counts.old map.old queue.old predecessors.old route.old)
-        ≡ record {
-          answer = reply_of result;
-          baseline = baseline.new;
-          work = work_in counts.new map.new queue.new predecessors.new route.new;
-        } }
+    work: &mut Work<'_>,
+) -> Result<(), Refusal>
+    requires { first (prepare_checks (preparation_in asked.now) baseline.old (work_of work.old)) ≡ none }
+    ensures { prepare_over (steps_of steps.now) (preparation_in asked.now) baseline.old (work_of work.old)
+        ≡ record { answer = reply_of result; baseline = baseline.new; work = work_of work.new } }
 {
-    let c = ground_rects::width(window) * ground_rects::height(window);
-    base_areas::clear_bytes(map, c);
-    base_areas::clear_u32(queue, c);
-    base_areas::clear_u32(predecessors, c);
-    base_areas::clear_u32(route, c);
+    let window = asked.window;
+    let c = call_lengths::centres(window);
+    base_areas::clear(work.map, c, 0);
+    base_areas::clear(work.queue, c, 0);
+    base_areas::clear(work.predecessors, c, 0);
+    base_areas::clear(work.route, c, 0);
+    // this leaves the counts zero
     ground_baseline::mark_baseline(
-        across, down, cells, obstacles, window, mover, counts, baseline,
+        asked.across,
+        asked.down,
+        asked.cells,
+        asked.obstacles,
+        window,
+        asked.mover,
+        work.counts,
+        baseline,
     );
     let answer = call_passage::check_passage(
         &baseline[..c],
         window,
-        start,
-        end,
+        asked.start,
+        asked.end,
         steps,
-        queue,
-        predecessors,
-        route,
+        work,
     );
-    if let Answer::Refused(r) = answer {
-        base_areas::clear_bytes(baseline, c);
-        return Answer::Refused(r);
+    if answer.is_err() {
+        base_areas::clear(baseline, c, 0);
     }
-    Answer::Done
+    answer
 }
 
 // Prepares a mover from terrain and obstacles: marks its baseline over the window, and looks whether it passes from start to end.
 // Refuses 19, then 1 to 9. Refusals 19 and 1 to 6 write nothing; 7 to 9 leave the baseline and the working areas zero up to their lengths.
 pub fn prepare(
-    across: u32,
-    down: u32,
-    cells: &[u8],
-    obstacles: &[i32],
-    window: Rect,
-    start: Position,
-    end: Position,
-    mover: Bounds,
+    asked: &Preparing<'_>,
     steps: &[i32],
     baseline: &mut [u8],
-    counts: &mut [i32],
-    map: &mut [u8],
-    queue: &mut [u32],
-    predecessors: &mut [u32],
-    route: &mut [u32],
-) -> Answer
-    ensures { prepare_call steps.now
-        (preparation across down cells.now obstacles.now window start end mover)
-        baseline.old
-        (work_in counts.old map.old queue.old predecessors.old route.old)
-        ≡ record {
-          answer = reply_of result;
-          baseline = baseline.new;
-          work = work_in counts.new map.new queue.new predecessors.new route.new;
-        } }
+    work: &mut Work<'_>,
+) -> Result<(), Refusal>
+    ensures { prepare_call steps.now (preparation_in asked.now) baseline.old (work_of work.old)
+        ≡ record { answer = reply_of result; baseline = baseline.new; work = work_of work.new } }
 {
-    if !table_fits(steps) {
-        return Answer::Refused(Refusal::StepsInvalid);
-    }
-    let room = WorkLengths {
-        counts: counts.len(),
-        map: map.len(),
-        queue: queue.len(),
-        predecessors: predecessors.len(),
-        route: route.len(),
-    };
-    let checked = prepare_checks(
-        across,
-        down,
-        cells,
-        obstacles,
-        window,
-        start,
-        end,
-        mover,
-        baseline.len(),
-        room,
-    );
-    if let Answer::Refused(_) = checked {
-        return checked;
-    }
-    prepare_checked(
-        across,
-        down,
-        cells,
-        obstacles,
-        window,
-        start,
-        end,
-        mover,
-        steps,
-        baseline,
-        counts,
-        map,
-        queue,
-        predecessors,
-        route,
-    )
+    ask(table_fits(steps), Refusal::StepsInvalid)?;
+    prepare_checks(asked, baseline.len(), work.lengths())?;
+    prepare_checked(asked, steps, baseline, work)
 }

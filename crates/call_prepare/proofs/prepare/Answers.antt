@@ -1,37 +1,38 @@
 -- `call_prepare::prepare` meets its contract: refusal 19 and a refusal among 1 to 6 leave all as it was, and what follows is `prepare_checked`.
-use mathlib.Core.Path.{refl, ◌∙◌}
-use Rattle.base_model.specs.Answers.{said_of, reply_of}
-use Rattle.rule_routes.specs.Edges.{steps_of}
-use Rattle.rule_calls.specs.Areas.{work_in}
+use mathlib.Core.Path.{◌≡◌, refl, ◌∙◌}
+use mathlib.Core.Bool.{true, false}
+use mathlib.Core.Option.{some}
+use Rattle.std.proofs.Common.{arith}
+use Rattle.std.proofs.lemmas.Grind.{common_steps}
+use Rattle.std.proofs.lemmas.Result.{err_from_is_err_and}
+use Rattle.base_model.specs.Answers.{refusal, said_of, reply_of}
+use Rattle.rule_routes.specs.Edges.{steps_of, table_fits}
 use Rattle.rule_calls.proofs.Tables.{prepare_over_lem, prepare_turned}
-use Rattle.call_lengths.specs.Lengths.{WorkHas}
-use Rattle.call_prepare.specs.Prepare.{preparation}
-use Rattle.call_prepare.proofs.Preparing.{none_refused, prepare_refused}
-use Rattle.call_prepare.proofs.Refusing.{held, failed}
+use Rattle.call_lengths.specs.Lent.{work_of}
+use Rattle.call_checks.proofs.Passed.{done_passes, refused_says}
+use Rattle.call_prepare.specs.Prepare.{preparation_in}
+use Rattle.call_prepare.proofs.Apart.{prepare_refused}
 use Rattle.call_prepare.proofs.prepare.Goals as goal
 
-pub returns-then-not-table_fits : goal.returns-then-not-table_fits
+pub returns-in_err-ask : goal.returns-in_err-ask
 unfolding reply_of said_of
-returns-then-not-table_fits c = prepare_turned _ (failed c.table_fits.ensures c.if-not-table_fits.true) _ _ _
+returns-in_err-ask c =
+    let t : table_fits c.args.steps.now ≡ false = grind (arith, common_steps, c.table_fits.ensures, c.ask.ensures, c.in_err-ask.was) in
+    let says : reply_of c.from_residual.result ≡ some (refusal 19) = grind (arith, common_steps, c.from_residual.ensures, c.ask.ensures, c.in_err-ask.was) in
+    prepare_turned _ t _ _ _ ∙ rw says refl
 
-pub returns-in-Refused : goal.returns-in-Refused
-returns-in-Refused c =
-    let g = c.args in
-    let q = preparation g.across g.down g.cells.now g.obstacles.now g.window g.start g.end g.mover in
-    let a = work_in g.counts.now g.map.now g.queue.now g.predecessors.now g.route.now in
-    let has : WorkHas a _ = record { counts = refl; map = refl; queue = refl; predecessors = refl; route = refl } in
-    prepare_over_lem _ (held c.table_fits.ensures c.if-not-table_fits.false) _ _ _
-    ∙ prepare_refused _ q g.baseline.now a (c.prepare_checks-checked.ensures g.baseline.now a refl has) c.in-Refused.is
+pub returns-in_err-prepare_checks : goal.returns-in_err-prepare_checks
+unfolding reply_of
+returns-in_err-prepare_checks c =
+    let t : table_fits c.args.steps.now ≡ true = grind (arith, common_steps, c.table_fits.ensures, c.ask.ensures, c.in_ok-ask.was) in
+    let p = err_from_is_err_and c.from_residual-in_err-prepare_checks.result c.from_residual-in_err-prepare_checks.ensures.1 in
+    prepare_over_lem _ t _ _ _ ∙ rw (p.1, p.2) (prepare_refused (steps_of c.args.steps.now) (preparation_in c.args.asked.now) c.args.baseline.now (work_of c.args.work.now)
+    (refused_says (c.prepare_checks.ensures c.args.baseline.now (work_of c.args.work.now) refl c.lengths.ensures) c.in_err-prepare_checks.was))
 
 pub prepare_checked-requires : goal.prepare_checked-requires
-prepare_checked-requires c =
-    let g = c.args in
-    let q = preparation g.across g.down g.cells.now g.obstacles.now g.window g.start g.end g.mover in
-    let a = work_in g.counts.now g.map.now g.queue.now g.predecessors.now g.route.now in
-    let has : WorkHas a _ = record { counts = refl; map = refl; queue = refl; predecessors = refl; route = refl } in
-    none_refused (steps_of g.steps.now) q g.baseline.now a (c.prepare_checks-checked.ensures g.baseline.now a refl has) c.in_default.is
+prepare_checked-requires c = done_passes (c.prepare_checks.ensures c.args.baseline.now (work_of c.args.work.now) refl c.lengths.ensures) c.in_ok-prepare_checks.was
 
 pub returns : goal.returns
 returns c =
-    prepare_over_lem _ (held c.table_fits.ensures c.if-not-table_fits.false) _ _ _
-    ∙ c.prepare_checked.ensures
+    let t : table_fits c.args.steps.now ≡ true = grind (arith, common_steps, c.table_fits.ensures, c.ask.ensures, c.in_ok-ask.was) in
+    prepare_over_lem _ t _ _ _ ∙ c.prepare_checked.ensures

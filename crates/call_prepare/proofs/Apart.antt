@@ -1,21 +1,16 @@
 -- The call prepare, taken apart: which conditions its first six checks ask, and what it leaves by the answer of the last three.
-use mathlib.Core.Path.{◌≡◌, refl, sym, ap, ◌∙◌}
+use mathlib.Core.Path.{◌≡◌, refl, ap, ◌∙◌}
 use mathlib.Core.Bool.{true, ◌&&◌}
 use mathlib.Core.Option.{Option, none, some}
 use mathlib.Core.List.{List, [], ◌++◌, append-nil}
 use Prim.Native.Nat.{ℕ, ◌-◌, ◌*◌, ◌≤◌}
 use native.Mathlib.Omega.{arith}
+use Rattle.std.proofs.lemmas.Grind.{common_steps}
 use lib.Dec.{leb}
 use lib.ListN.{length, drop, replicate, length-map}
-use borrow.Author.Tests.{leb-true}
 use Rattle.base_laws.specs.Lists.{all_of, below, padded}
-use Rattle.base_laws.proofs.Members.{both}
 use Rattle.base_laws.proofs.Lists.{length_below}
-use Rattle.base_model.specs.Answers.{Said, first, said_of, reply_of}
-use Rattle.base_model.proofs.Asking.{ask_passes, first_passes}
-use Rattle.base_model.specs.declared.Refusal.{Refusal}
-use Rattle.base_model.specs.declared.Answer.{Answer}
-use Rattle.base_model.specs.declared.Answer.TheVariants.{Done, Refused}
+use Rattle.base_model.specs.Answers.{Said, ask, first}
 use Rattle.ground_rects.specs.Rects.{nonempty, small, rects_of}
 use Rattle.ground_rects.specs.Windows.{centres, window_fits, in_window}
 use Rattle.ground_baseline.specs.Baseline.{map_fits, baseline_of}
@@ -43,35 +38,21 @@ pub record Passed (q : Preparation) (baseline : List ℕ) (a : Work) : Type 0 wh
   pub route_room : centres q.window ≤ length a.route
 
 pub passed : (q : Preparation) (baseline : List ℕ) (a : Work) → first (prepare_checks q baseline a) ≡ none → Passed q baseline a
-unfolding prepare_checks work_fits
-passed q baseline a e =
-    let w = q.window in
-    let one = first_passes _ _ e in
-    let two = first_passes _ _ one.1 in
-    let three = first_passes _ _ two.1 in
-    let four = first_passes _ _ three.1 in
-    let five = first_passes _ _ four.1 in
-    let six = first_passes _ _ five.1 in
-    let ends = both (in_window w q.start) (in_window w q.end) (ask_passes 3 _ three.0) in
-    let room = both (leb (centres w) (length baseline)) (work_fits w a) (ask_passes 6 _ six.0) in
-    let r1 = both _ (leb (centres w) (length a.route)) room.1 in
-    let r2 = both _ (leb (centres w) (length a.predecessors)) r1.0 in
-    let r3 = both _ (leb (centres w) (length a.queue)) r2.0 in
-    let r4 = both (leb (counts_length w) (length a.counts)) (leb (centres w) (length a.map)) r3.0 in
-    record {
-      map_fits_lem = ask_passes 1 _ one.0;
-      window = ask_passes 2 _ two.0;
-      start_in = ends.0;
-      end_in = ends.1;
-      mover = ask_passes 4 _ four.0;
-      obstacles = ask_passes 5 _ five.0;
-      baseline_room = leb-true _ _ room.0;
-      counts_room = leb-true _ _ r4.0;
-      map_room = leb-true _ _ r4.1;
-      queue_room = leb-true _ _ r3.1;
-      predecessors_room = leb-true _ _ r2.1;
-      route_room = leb-true _ _ r1.1;
-    }
+unfolding prepare_checks work_fits ask first
+passed q baseline a e = record {
+  map_fits_lem = grind (arith, common_steps, e);
+  window = grind (arith, common_steps, e);
+  start_in = grind (arith, common_steps, e);
+  end_in = grind (arith, common_steps, e);
+  mover = grind (arith, common_steps, e);
+  obstacles = grind (arith, common_steps, e);
+  baseline_room = grind (arith, common_steps, e);
+  counts_room = grind (arith, common_steps, e);
+  map_room = grind (arith, common_steps, e);
+  queue_room = grind (arith, common_steps, e);
+  predecessors_room = grind (arith, common_steps, e);
+  route_room = grind (arith, common_steps, e);
+}
 
 -- the baseline that is marked
 abbrev pub marks_of : Preparation → List ℕ
@@ -112,15 +93,8 @@ prepared_by_lem steps q baseline a e =
     in
     rw (prepare_over, e, p) refl
 
--- by the answer that says which of checks 1 to 6 fails first
-module _ (steps : List Step) (q : Preparation) (baseline : List ℕ) (a : Work) {o : Answer} (said : reply_of o ≡ first (prepare_checks q baseline a)) where
-  pub none_refused : o ≡ Done → first (prepare_checks q baseline a) ≡ none
-  unfolding reply_of
-  none_refused e = sym said ∙ ap reply_of e
-
-  pub prepare_refused : {r : Refusal} → o ≡ Refused r → prepare_over steps q baseline a ≡ record { answer = reply_of o; baseline = baseline; work = a }
-  unfolding prepare_over reply_of
-  prepare_refused {r} e =
-      let says : reply_of o ≡ some (said_of r) = ap reply_of e in
-      let f : first (prepare_checks q baseline a) ≡ some (said_of r) = sym said ∙ says in
-      rw (prepare_over, f, says) refl
+-- one of checks 1 to 6 refuses
+pub prepare_refused : (steps : List Step) (q : Preparation) (baseline : List ℕ) (a : Work) {r : Said} → first (prepare_checks q baseline a) ≡ some r
+    → prepare_over steps q baseline a ≡ record { answer = some r; baseline = baseline; work = a }
+unfolding prepare_over
+prepare_refused steps q baseline a e = rw (prepare_over, e) refl
