@@ -48,6 +48,7 @@ impl FlatPlaces<'_> {
     }
 
     // The footprint of placement i: the first of its two rectangles.
+    #[tactic(auto, unfolding(rule_layouts::specs::Flat::rect_at, ground_rects::specs::Spans::nth_rect))]
     pub fn footprint(&self, i: usize) -> Rect
         requires { 8 * i + 8 ≤ length self.now.edges.now }
         ensures { result ≡ rect_at self.now.edges.now (8 * i) }
@@ -56,6 +57,7 @@ impl FlatPlaces<'_> {
     }
 
     // The collision rectangle of placement i: the second of its two rectangles.
+    #[tactic(auto, unfolding(rule_layouts::specs::Flat::rect_at, ground_rects::specs::Spans::nth_rect))]
     pub fn collision(&self, i: usize) -> Rect
         requires { 8 * i + 8 ≤ length self.now.edges.now }
         ensures { result ≡ rect_at self.now.edges.now (8 * i + 4) }
