@@ -68,7 +68,8 @@ module _ (edges : ℕ → List Edge) (c : ℕ) (cells : List ℕ) (start end : �
   pub blocked_end : open_in cells end ≡ false → Routed answer route route None
   blocked_end n = no_route_lem (shut (rw (n, and-false (open_in cells start))))
 
-  module _ (s : open_in cells start ≡ true) (e : open_in cells end ≡ true) (queue predecessors : List ℕ) (hit : Bool) (tail : ℕ) (f : SearchFound found queue predecessors start (Some end) hit tail) where
+  module _ (s : open_in cells start ≡ true) (e : open_in cells end ≡ true)
+      (queue predecessors : List ℕ) (hit : Bool) (tail : ℕ) (f : SearchFound found queue predecessors start (Some end) hit tail) where
     pub routed_none : hit ≡ false → Routed answer route route None
     unfolding nodes_of is_some
     routed_none h = no_route_lem (open_ends_lem s e ∙ ap nodes_of (missing found.hit (sym f.ended ∙ h)))
@@ -77,7 +78,8 @@ module _ (edges : ℕ → List Edge) (c : ℕ) (cells : List ℕ) (start end : �
         missing none k = refl
         missing (some r) k = absurd (true≢false k)
 
-    pub routed_some : hit ≡ true → (n : ℕ) → BackCounted predecessors start end n → (route' : List ℕ) → RouteLaid predecessors start end n route route' → Routed answer route route' (Some n)
+    pub routed_some : hit ≡ true → (n : ℕ) → BackCounted predecessors start end n
+        → (route' : List ℕ) → RouteLaid predecessors start end n route route' → Routed answer route route' (Some n)
     unfolding nodes_of counted laid_into
     routed_some h n c route' l =
         let way = f.way end refl h in

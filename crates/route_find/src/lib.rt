@@ -50,6 +50,7 @@ pub fn search(
     queue[0] = start as u32;
     let mut head = 0;
     let mut tail = 1;
+    // The queue grows while it is read.
     while head < tail {
         let u = queue[head] as usize;
         if end == Some(u) {
