@@ -1,8 +1,9 @@
 // The verdict on a set of placements that leaves the blocked mover no route.
 #![tactic(auto)]
 
-ghost use Rattle.std.specs.Prelude.{◌≡◌};
+ghost use Rattle.std.specs.Prelude.{◌≡◌, length};
 ghost use Rattle.base_laws.specs.Lists.{is_some};
+ghost use Rattle.ground_rects.specs.Windows.{centres};
 ghost use Rattle.set_blocked.specs.Blocked.{AllowReady, Named};
 ghost use Rattle.set_pass.specs.Pass.{Shutting};
 ghost use Rattle.set_pass.specs.Lent.{Lent, Kept, allow_on, allowed_on};
@@ -20,6 +21,7 @@ fn lets_allowed(ground: &Ground<'_>, allow: Option<Bounds>, base: &[u8], set: &[
     requires named { Named ground.now.places.edges.now set.now }
     ensures value { result ≡ is_some (allowed_on ground.now (allow_on ground.now allow base.now) set.now) }
     ensures areas_kept { Kept areas.old areas.new }
+    ensures map_bytes { length areas.new.map.now ≡ centres ground.now.window }
 {
     let Some(n) = set_pass::allowed_route(ground, allow, base, set, areas) else {
         return false;
@@ -34,6 +36,7 @@ pub fn shut_verdict(ground: &Ground<'_>, given: &Given<'_>, set: &[u16], areas: 
     requires shutting { Shutting ground.now given.now set.now }
     ensures value { result ≡ shut_on ground.now given.now set.now }
     ensures areas_kept { Kept areas.old areas.new }
+    ensures map_bytes { length areas.new.map.now ≡ centres ground.now.window }
 {
     let block = Mover {
         bounds: given.query.block,

@@ -33,3 +33,9 @@ returns-clause-value c =
     shut_wall g.window (steps_of g.steps.now) g.start g.end (block_on g i) (allow_given g i) c.args.set.now
     c.is_minimal_block.result c.is_minimal_block.ensures.value c.if-not-is_minimal_block.false
     c.lets_allowed.result c.lets_allowed.ensures.value c.if-not-lets_allowed.false
+
+pub returns-then-not-is_minimal_block-clause-map_bytes : goal.returns-then-not-is_minimal_block-clause-map_bytes
+returns-then-not-is_minimal_block-clause-map_bytes c =
+    let g = c.args.ground.now in
+    (lent_lifted (steps_of g.steps.now) (block_on g c.args.given.now) c.args.set.now
+    c.requires.route_lent c.is_minimal_block.ensures.map_after c.is_minimal_block.ensures.areas_kept).bytes

@@ -5,73 +5,41 @@ use lib.ListN.{length}
 use Rattle.base_laws.proofs.Stores.{wiped_whole}
 use Rattle.ground_rects.specs.Windows.{centres, centre_at}
 use Rattle.rule_routes.specs.Edges.{steps_of}
-use Rattle.set_board.proofs.Ready.{named_rows}
-use Rattle.set_verdict.proofs.Judging.{verdict_slots, verdict_overlap, verdict_fit, verdict_rule, lent_blank, blank_again}
+use Rattle.set_verdict.proofs.Judging.{verdict_slots, verdict_overlap, verdict_fit, lent_blank, blank_again}
 use Rattle.set_verdict.proofs.verdict.Goals as goal
 
-pub over_slots-requires : goal.over_slots-requires
-over_slots-requires c = c.requires.ready.rows
+pub returns-then-over_slots-clause-value : goal.returns-then-over_slots-clause-value
+returns-then-over_slots-clause-value c =
+    let g = c.args.given.now in
+    let p = c.requires.ready.rows in
+    let n = length g.places.numbers.now / 4 in
+    let q = g.query in
+    verdict_slots g n (steps_of c.args.steps.now) c.args.set.now p.fours p.eights (centre_at q.window q.start) (centre_at q.window q.end) refl refl
+    c.over_slots.result (c.over_slots.ensures n) c.if-over_slots.true
 
-pub returns-then-over_slots : goal.returns-then-over_slots
-returns-then-over_slots c =
-    let a = c.args in record {
-      value = verdict_slots a.query (centre_at a.query.window a.query.start) (centre_at a.query.window a.query.end)
-          (length a.numbers.now / 4) a.groups.now a.numbers.now a.edges.now a.block_base.now a.allow_base.now
-          (steps_of a.steps.now) a.set.now
-          c.over_slots.result c.over_slots.ensures c.if-over_slots.true
-          ∙ verdict_rule a.query (centre_at a.query.window a.query.start) (centre_at a.query.window a.query.end)
-          (length a.numbers.now / 4) a.groups.now a.numbers.now a.edges.now a.block_base.now a.allow_base.now
-          (steps_of a.steps.now) a.set.now c.requires.ready.rows.fours c.requires.ready.rows.eights refl refl;
-      blank_2 = c.requires.blank;
-    }
+pub returns-then-overlaps-clause-value : goal.returns-then-overlaps-clause-value
+returns-then-overlaps-clause-value c =
+    let g = c.args.given.now in
+    let p = c.requires.ready.rows in
+    let n = length g.places.numbers.now / 4 in
+    let q = g.query in
+    verdict_overlap g n (steps_of c.args.steps.now) c.args.set.now p.fours p.eights (centre_at q.window q.start) (centre_at q.window q.end) refl refl
+    c.over_slots.result (c.over_slots.ensures n) c.if-over_slots.false c.overlaps.result c.overlaps.ensures c.if-overlaps.true
 
-pub overlaps-requires : goal.overlaps-requires
-overlaps-requires c = named_rows c.requires.ready.rows
+pub fit_verdict-verdict-requires-clause-route_lent : goal.fit_verdict-verdict-requires-clause-route_lent
+fit_verdict-verdict-requires-clause-route_lent c =
+    lent_blank c.args.given.now.query c.centre_at.result c.centre_at-2.result c.requires.ready.fits c.centre_at.ensures.1 c.centre_at-2.ensures.1 c.requires.blank
 
-pub returns-then-overlaps : goal.returns-then-overlaps
-returns-then-overlaps c =
-    let a = c.args in record {
-      value = verdict_overlap a.query (centre_at a.query.window a.query.start) (centre_at a.query.window a.query.end)
-          (length a.numbers.now / 4) a.groups.now a.numbers.now a.edges.now a.block_base.now a.allow_base.now
-          (steps_of a.steps.now) a.set.now
-          c.over_slots.result c.over_slots.ensures c.if-over_slots.false c.overlaps.result c.overlaps.ensures c.if-overlaps.true
-          ∙ verdict_rule a.query (centre_at a.query.window a.query.start) (centre_at a.query.window a.query.end)
-          (length a.numbers.now / 4) a.groups.now a.numbers.now a.edges.now a.block_base.now a.allow_base.now
-          (steps_of a.steps.now) a.set.now c.requires.ready.rows.fours c.requires.ready.rows.eights refl refl;
-      blank_2 = c.requires.blank;
-    }
+pub returns-clause-value : goal.returns-clause-value
+returns-clause-value c =
+    let g = c.args.given.now in
+    let p = c.requires.ready.rows in
+    let n = length g.places.numbers.now / 4 in
+    c.fit_verdict-verdict.ensures.value
+    ∙ verdict_fit g n (steps_of c.args.steps.now) c.args.set.now p.fours p.eights c.centre_at.result c.centre_at-2.result c.centre_at.ensures.0 c.centre_at-2.ensures.0
+    c.over_slots.result (c.over_slots.ensures n) c.if-over_slots.false c.overlaps.result c.overlaps.ensures c.if-overlaps.false
 
-pub centre_at-start-requires : goal.centre_at-start-requires
-centre_at-start-requires c = record { window_value = c.requires.ready.fits; p_value = c.requires.ready.start_in }
-
-pub centre_at-end-requires : goal.centre_at-end-requires
-centre_at-end-requires c = record { window_value = c.requires.ready.fits; p_value = c.requires.ready.end_in }
-
-pub fit_verdict-v-requires : goal.fit_verdict-v-requires
-fit_verdict-v-requires c =
-    let p = c.requires.ready in record {
-      route_lent = lent_blank c.args.query c.centre_at-start.result c.centre_at-end.result p.fits
-          c.centre_at-start.ensures.1 c.centre_at-end.ensures.1 c.requires.blank;
-      shutting = record { moving = record { slim = p.slim; bytes = p.bytes; named = named_rows p.rows }; allowed = p.allowed; rising = p.rising };
-    }
-
-pub returns : goal.returns
-returns c =
-    let a = c.args in
-    let p = c.requires.ready in
-    let l = lent_blank a.query c.centre_at-start.result c.centre_at-end.result p.fits
-    c.centre_at-start.ensures.1 c.centre_at-end.ensures.1 c.requires.blank in record {
-      value = c.fit_verdict-v.ensures.value
-          ∙ verdict_fit a.query c.centre_at-start.result c.centre_at-end.result (length a.numbers.now / 4)
-          a.groups.now a.numbers.now a.edges.now a.block_base.now a.allow_base.now (steps_of a.steps.now)
-          a.set.now
-          c.over_slots.result c.over_slots.ensures c.if-over_slots.false
-          c.overlaps.result c.overlaps.ensures c.if-overlaps.false
-          ∙ verdict_rule a.query c.centre_at-start.result c.centre_at-end.result (length a.numbers.now / 4)
-          a.groups.now a.numbers.now a.edges.now a.block_base.now a.allow_base.now (steps_of a.steps.now)
-          a.set.now p.rows.fours p.rows.eights
-          c.centre_at-start.ensures.0 c.centre_at-end.ensures.0;
-      blank_2 = blank_again c.requires.blank
-          (c.clear_bytes.ensures ∙ wiped_whole 0 (centres a.query.window) c.fit_verdict-v.new.map (c.fit_verdict-v.auto.map ∙ l.bytes))
-          c.fit_verdict-v.ensures.areas_kept;
-    }
+pub returns-clause-blank_2 : goal.returns-clause-blank_2
+returns-clause-blank_2 c =
+    blank_again c.requires.blank (c.clear.ensures ∙ wiped_whole 0 (centres c.args.given.now.query.window) c.fit_verdict-verdict.new.areas.map.now c.fit_verdict-verdict.ensures.map_bytes)
+    c.fit_verdict-verdict.ensures.areas_kept
