@@ -2,6 +2,8 @@
 use Rattle.std.specs.Prelude.{ℕ, ◌≡◌, true, List, ℤ, replicate}
 use Rattle.base_model.specs.declared.Query.{Query}
 use Rattle.ground_rects.specs.Windows.{centres, window_fits, in_window}
+use Rattle.set_places.specs.declared.Given.{Given}
+use Rattle.set_pass.specs.declared.Areas.{Areas}
 use Rattle.set_pass.specs.Pass.{Moving}
 
 pub record GroundLent (q : Query) (edges : List ℤ) (block_base set map queue predecessors : List ℕ) : Type 0 where
@@ -11,3 +13,7 @@ pub record GroundLent (q : Query) (edges : List ℤ) (block_base set map queue p
   pub map_clear : map ≡ replicate (centres q.window) 0
   pub queue_clear : queue ≡ replicate (centres q.window) 0
   pub predecessors_clear : predecessors ≡ replicate (centres q.window) 0
+
+-- the same of what is given and of the areas lent
+abbrev pub GroundLentFor : Given → List ℕ → Areas → Type 0
+GroundLentFor g set a = GroundLent g.query g.places.edges.now g.block_base.now set a.map.now a.queue.now a.predecessors.now
