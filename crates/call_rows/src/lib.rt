@@ -64,13 +64,14 @@ pub fn rows_fit(area: &[u16], count: usize, n: usize) -> bool
 }
 
 // How many points a kept route may have: as many as there are centres, none without an allowed mover.
+#[tactic(auto, unfolding(crate::specs::Figures::cap_of))]
 pub fn route_cap(query: Query) -> usize
     requires { window_fits 8192 8192 query.window ≡ true }
     ensures { (result ≡ cap_of query) × (result ≤ 1048576) }
 {
     match query.allow {
         None => 0,
-        Some(_) => ground_rects::width(query.window) * ground_rects::height(query.window),
+        Some(_) => call_lengths::centres(query.window),
     }
 }
 

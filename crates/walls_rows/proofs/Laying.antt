@@ -1,19 +1,19 @@
 -- Rows of one width laid one after another into an area, and read back.
 use mathlib.Core.Path.{◌≡◌, sym, ◌∙◌, ap, ap₂}
-use Prim.Native.Nat.{ℕ, suc, ◌+◌, ◌*◌, ◌-◌, ◌≤◌, ◌<◌, min}
+use Prim.Native.Nat.{ℕ, ◌+◌, ◌*◌, ◌-◌, ◌<◌, min}
 use native.Mathlib.Numerals.{add-one}
 use native.Mathlib.Nat.{mul_comm, mul-suc, mul-sub}
 use native.Mathlib.Omega.{arith}
-use mathlib.Core.List.{List, [], ◌∷◌, ◌++◌, map}
+use mathlib.Core.List.{List, ◌++◌, map}
 use lib.Dec.{leb}
-use lib.ListN.{length, get_or, set, take, drop, replicate}
+use lib.ListN.{length, get_or, take, drop, replicate}
 use lib.Seq.{length-take-le, take_all, take-suc, drop-drop}
 use borrow.Author.Tests.{leb-true, leb-false}
 use Rattle.base_laws.specs.Lists.{flat}
 use Rattle.base_laws.specs.Fill.{over}
 use Rattle.base_laws.proofs.Blocks.{flat_snoc, length_flat}
 use Rattle.base_laws.proofs.Members.{either}
-use Rattle.base_laws.proofs.Stores.{over_sets, over_after, drop_replicate}
+use Rattle.base_laws.proofs.Stores.{over_after, drop_replicate}
 
 pub take_least : {A : Type 0} (xs : List A) (n k : ℕ) → k ≡ min (length xs) n → take k xs ≡ take n xs
 take_least xs n k e =
@@ -22,14 +22,6 @@ take_least xs n k e =
     (λ t. let h = leb-false n (length xs) t in take_all k xs (omega arith) ∙ sym (take_all n xs (omega arith)))
 
 module _ {A : Type 0} where
-  pub over_four : (xs : List A) (at : ℕ) (a b c d : A) → at + 4 ≤ length xs
-      → set (set (set (set xs at a) (at + 1) b) (at + 2) c) (at + 3) d ≡ over xs at (a ∷ b ∷ c ∷ d ∷ [])
-  over_four xs at a b c d h =
-      let one : at + 1 ≡ suc at = omega arith in
-      let two : at + 2 ≡ suc (suc at) = omega arith in
-      let three : at + 3 ≡ suc (suc (suc at)) = omega arith in
-      rw (one, two, three) (over_sets xs at (a ∷ b ∷ c ∷ d ∷ []) h)
-
   module _ {P : Type 0} (f : P → List A) (w : ℕ) (wide : (p : P) → length (f p) ≡ w) where
     pub length_rows : (ps : List P) → length (flat (map f ps)) ≡ w * length ps
     length_rows ps = length_flat f w ps (λ p m. wide p) ∙ mul_comm (length ps) w
