@@ -44,6 +44,7 @@ fn change_counts(
 
 // Covers the baseline with the rectangle: one more at exactly the centres off which it keeps the mover. Refuses 2, 4, 6, 15, and 20
 // where a count would pass 255, and then writes nothing.
+#[tactic(auto, unfolding(rule_covers::specs::Covers::cover_call, ground_spans::specs::Changes::made, ground_spans::specs::Changes::allows))]
 pub fn cover(window: Rect, mover: Bounds, rect: Rect, baseline: &mut [u8]) -> Result<(), Refusal>
     ensures { cover_call window mover rect baseline.old
         ≡ record { answer = reply_of result; baseline = baseline.new } }
@@ -53,6 +54,7 @@ pub fn cover(window: Rect, mover: Bounds, rect: Rect, baseline: &mut [u8]) -> Re
 
 // Lifts the rectangle off the baseline: one less at exactly these centres. Refuses 2, 4, 6, 15, and 20 where a count would pass zero,
 // and then writes nothing.
+#[tactic(auto, unfolding(rule_covers::specs::Covers::lift_call, ground_spans::specs::Changes::made, ground_spans::specs::Changes::allows))]
 pub fn lift(window: Rect, mover: Bounds, rect: Rect, baseline: &mut [u8]) -> Result<(), Refusal>
     ensures { lift_call window mover rect baseline.old
         ≡ record { answer = reply_of result; baseline = baseline.new } }
