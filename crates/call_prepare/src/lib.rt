@@ -14,6 +14,7 @@ ghost use Rattle.call_prepare.specs.Prepare.{preparation_in};
 use base_model::{Bounds, CELL, Position, Rect, Refusal};
 use call_checks::ask;
 use call_lengths::{Work, WorkLengths};
+use ground_baseline::Cells;
 use ground_rects::in_window;
 use route_table::table_fits;
 
@@ -36,7 +37,12 @@ fn prepare_checks(asked: &Preparing<'_>, baseline: usize, room: WorkLengths) -> 
         → reply_of result ≡ first (prepare_checks (preparation_in asked.now) b a) }
 {
     let window = asked.window;
-    let mapped = ground_baseline::map_fits(asked.across, asked.down, asked.cells);
+    let map = Cells {
+        across: asked.across,
+        down: asked.down,
+        cells: asked.cells,
+    };
+    let mapped = ground_baseline::map_fits(&map);
     ask(mapped, Refusal::MapInvalid)?;
     let wide = ground_rects::window_fits(window, CELL * asked.across, CELL * asked.down);
     ask(wide, Refusal::WindowInvalid)?;
@@ -67,10 +73,13 @@ fn prepare_checked(
     base_areas::clear(work.predecessors, c, 0);
     base_areas::clear(work.route, c, 0);
     // this leaves the counts zero
+    let map = Cells {
+        across: asked.across,
+        down: asked.down,
+        cells: asked.cells,
+    };
     ground_baseline::mark_baseline(
-        asked.across,
-        asked.down,
-        asked.cells,
+        &map,
         asked.obstacles,
         window,
         asked.mover,
