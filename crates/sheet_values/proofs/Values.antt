@@ -1,5 +1,6 @@
 -- The sheet's values in the words that were read, and rows of words as the flat forms that the calls take. Assumes nothing.
 use mathlib.Core.Path.{◌≡◌, refl, sym, ap, ◌∙◌, subst}
+use mathlib.Core.Bool.{Bool, true, false}
 use mathlib.Core.List.{List, [], ◌∷◌}
 use Prim.Native.Nat.{ℕ, zero, suc, ◌+◌, ◌<◌}
 use native.Mathlib.Omega.{arith}
@@ -12,14 +13,14 @@ use Rattle.base_model.specs.declared.Rect.{Rect}
 use Rattle.base_model.specs.declared.Bounds.{Bounds}
 use Rattle.base_model.specs.declared.Position.{Position}
 use Rattle.base_model.specs.Allow.{Allow}
-use Rattle.std.specs.Prelude.{None, Some}
+use Rattle.std.specs.Prelude.{None, Some, cond}
 use Rattle.base_model.specs.declared.Query.{Query}
 use Rattle.ground_rects.specs.Rects.{rect}
 use Rattle.sheet_form.specs.Sheets.{Sheet, sheet, signed_of, rect_of}
 use Rattle.sheet_lines.specs.Answers.{Stands}
 use Rattle.sheet_read.specs.Answers.{SheetHeld}
 use Rattle.sheet_read.specs.declared.Counts.{Counts}
-use Rattle.sheet_words.proofs.Edges.{rect_made}
+use Rattle.sheet_words.proofs.Edges.{edge_kept}
 use Rattle.sheet_form.proofs.Widths.{size_wide, ends_wide, block_wide, allow_wide, limits_wide}
 use Rattle.sheet_read.proofs.Caps.{window_rect}
 use Rattle.sheet_rule.specs.Drive.{bounds_of, start_of, end_of, allowed_by, limits_of, query_of}
@@ -27,8 +28,7 @@ use Rattle.sheet_values.specs.Inner.{position_in, allow_read, query_in, limits_r
 
 -- ---- words read
 pub edge_same : (z : ℤ) (x : ℕ) → z ≡ signed_of x → to_z w32 (of_z w32 z) ≡ signed_of x
-unfolding rect_of rect
-edge_same z x e = ap (λ (q : Rect). q.left) (rect_made (x ∷ []) 0 z (signed_of 0) (signed_of 0) (signed_of 0) e refl refl refl)
+edge_same z x e = edge_kept z x e
 
 pub bounds_made : (words : List ℕ) (at : ℕ)
     → ◌≡◌ {A = Bounds} (record {
@@ -46,16 +46,15 @@ bounds_made words at =
     let e3 : get_or (drop at words) 3 0 ≡ get_or words (at + 3) 0 = get_or-drop at words 3 0 in
     rw (e0, e1, e2, e3)
 
-pub nobody_in : (allow : ℕ) (fixed : List ℕ) → allow ≡ 0 → None ≡ allow_read allow fixed
+pub nobody_in : (allow : Bool) (fixed : List ℕ) → allow ≡ false → None ≡ allow_read allow fixed
 unfolding allow_read
-nobody_in allow fixed e = sym (ap (λ (n : ℕ). allow_read n fixed) e)
+nobody_in allow fixed e = sym (ap (λ (t : Bool). allow_read t fixed) e)
 
-pub bounded_in : (allow : ℕ) (fixed : List ℕ) (b : Bounds) → (allow ≡ 0 → ⊥) → b ≡ bounds_of (drop 14 fixed) → Some b ≡ allow_read allow fixed
+pub bounded_in : (allow : Bool) (fixed : List ℕ) (b : Bounds) → allow ≡ true → b ≡ bounds_of (drop 14 fixed) → Some b ≡ allow_read allow fixed
 unfolding allow_read
-bounded_in zero fixed b n e = absurd (n refl)
-bounded_in (suc k) fixed b n e = ap Some e
+bounded_in allow fixed b t e = ap Some e ∙ sym (ap (λ (t : Bool). allow_read t fixed) t)
 
-pub query_made : (allow : ℕ) (fixed : List ℕ) (w : Rect) (s t : Position) (b : Bounds) (a : Allow) → w ≡ rect_of (drop 2 fixed) → s ≡ position_in 6 fixed → t ≡ position_in 8 fixed
+pub query_made : (allow : Bool) (fixed : List ℕ) (w : Rect) (s t : Position) (b : Bounds) (a : Allow) → w ≡ rect_of (drop 2 fixed) → s ≡ position_in 6 fixed → t ≡ position_in 8 fixed
     → b ≡ bounds_of (drop 10 fixed) → a ≡ allow_read allow fixed → ◌≡◌ {A = Query} (record { window = w; start = s; end = t; block = b; allow = a }) (query_in allow fixed)
 unfolding query_in
 query_made allow fixed w s t b a ew es et eb ea = rw (ew, es, et, eb, ea)
@@ -77,11 +76,13 @@ module _ (s : Sheet) (k : Counts) (fixed cells obstacles groups places : List �
 
   allow_stands : allow_read k.allow fixed ≡ allowed_by s.allow
   unfolding allow_read allowed_by
-  allow_stands = ap (λ (n : ℕ). allow_read n fixed) h.allow_count ∙ go s.allow refl
+  allow_stands = go k.allow s.allow h.allow_count refl
     where
-      go : (l : List (List ℕ)) → s.allow ≡ l → allow_read (length l) fixed ≡ allowed_by l
-      go [] e = refl
-      go (b ∷ bs) e = ap Some (stands_bounds b 14 fixed (allow_wide s fit b bs e).0 (subst (λ (l : List (List ℕ)). Stands (get_or l 0 []) 14 fixed) e h.allow_stands))
+      go : (t : Bool) (l : List (List ℕ)) → cond t 1 0 ≡ length l → s.allow ≡ l → allow_read t fixed ≡ allowed_by l
+      go false [] n e = refl
+      go false (b ∷ bs) n e = absurd (omega arith)
+      go true [] n e = absurd (omega arith)
+      go true (b ∷ bs) n e = ap Some (stands_bounds b 14 fixed (allow_wide s fit b bs e).0 (subst (λ (l : List (List ℕ)). Stands (get_or l 0 []) 14 fixed) e h.allow_stands))
 
   pub query_stands : query_in k.allow fixed ≡ query_of s
   unfolding query_in query_of start_of end_of position_in

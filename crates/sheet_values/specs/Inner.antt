@@ -1,5 +1,5 @@
 -- Vocabulary of private contracts: the sheet's values in the words that were read, and the flat forms that the calls take.
-use Rattle.std.specs.Prelude.{ℕ, zero, suc, ◌+◌, ◌*◌, ◌/◌, ◌%◌, ◌≤◌, ◌≡◌, List, ℤ, length, get_or, take, drop}
+use Rattle.std.specs.Prelude.{Bool, true, false, ℕ, ◌+◌, ◌*◌, ◌/◌, ◌%◌, ◌≤◌, ◌≡◌, List, ℤ, length, get_or, take, drop}
 use Rattle.base_model.specs.declared.Position.{Position}
 use Rattle.base_model.specs.Allow.{Allow}
 use Rattle.std.specs.Prelude.{None, Some}
@@ -14,11 +14,11 @@ use Rattle.sheet_allowed.specs.Inner.{Flat}
 unfoldable pub position_in : ℕ → List ℕ → Position
 position_in at fixed = record { x = get_or fixed at 0; y = get_or fixed (at + 1) 0 }
 
-unfoldable pub allow_read : ℕ → List ℕ → Allow
-allow_read zero fixed = None
-allow_read (suc n) fixed = Some (bounds_of (drop 14 fixed))
+unfoldable pub allow_read : Bool → List ℕ → Allow
+allow_read false fixed = None
+allow_read true fixed = Some (bounds_of (drop 14 fixed))
 
-unfoldable pub query_in : (allow : ℕ) → List ℕ → Query
+unfoldable pub query_in : (allow : Bool) → List ℕ → Query
 query_in allow fixed = record {
   window = rect_of (drop 2 fixed);
   start = position_in 6 fixed;

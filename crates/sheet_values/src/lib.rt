@@ -42,18 +42,18 @@ fn bounds_in(words: &[u32], at: usize) -> Bounds
 }
 
 // The allowed mover, where there is a line for it.
-fn allow_in(fixed: &[u32], allow: usize) -> Option<Bounds>
+fn allow_in(fixed: &[u32], allow: bool) -> Option<Bounds>
     requires { length fixed.now ≡ 20 }
     ensures { result ≡ allow_read allow fixed.now }
 {
-    if allow == 0 {
+    if !allow {
         return None;
     }
     Some(bounds_in(fixed, ALLOW))
 }
 
 // The query of a sheet, from the words of the lines that stand once.
-fn query_in(fixed: &[u32], allow: usize) -> Query
+fn query_in(fixed: &[u32], allow: bool) -> Query
     requires { length fixed.now ≡ 20 }
     ensures { result ≡ query_in allow fixed.now }
 {
