@@ -1,12 +1,12 @@
 -- Signed 64-bit numbers as the machine holds them: where they are small, what is read back of a number, a sum or a product is the integers' own.
 use mathlib.Core.Path.{◌≡◌, ap, ap₂, ◌∙◌}
-use Prim.Native.Nat.{◌≤◌, ◌<◌}
+use Prim.Native.Nat.{◌*◌, ◌≤◌, ◌<◌}
 use native.Mathlib.Omega.{arith}
-use lib.IntN.{ℤ, nat_abs, ◌+ℤ◌, ◌-ℤ◌, ◌*ℤ◌}
+use lib.IntN.{ℤ, pos, nat_abs, ◌+ℤ◌, ◌-ℤ◌, ◌*ℤ◌}
 use mir.Syntax.{w64}
 use mir.Val.{SFits, to_z, of_z}
 use mir.Facts.{to_z-of_z}
-use Rattle.base_laws.proofs.Magnitudes.{abs_add, abs_minus, abs_mul_le, fits_i64}
+use Rattle.base_laws.proofs.Magnitudes.{abs_add, abs_minus, abs_mul_le, square_pos, fits_i64}
 use Rattle.rule_ranks.specs.declared.Vector.{Vector}
 
 abbrev pub vector : ℤ → ℤ → Vector
@@ -32,6 +32,11 @@ module _ (a b : ℤ) (h : nat_abs a ≤ 268435456) (k : nat_abs b ≤ 268435456)
 
   pub product_read : word (word a *ℤ word b) ≡ a *ℤ b
   product_read = ap word factors ∙ read (a *ℤ b) (omega (arith, product_le))
+
+-- a square as an unsigned number
+module _ (z : ℤ) (h : nat_abs z ≤ 268435456) where
+  pub square_read : word (word z *ℤ word z) ≡ pos (nat_abs z * nat_abs z)
+  square_read = product_read z z h h ∙ square_pos z
 
 -- ---- sums and differences of two products
 module _ (a b c d : ℤ) (h : nat_abs a ≤ 268435456) (i : nat_abs b ≤ 268435456) (j : nat_abs c ≤ 268435456) (k : nat_abs d ≤ 268435456) where
