@@ -1,45 +1,43 @@
 -- `call_begin::begin` meets its contract: the table or the first checks refuse, or the rest of the call answers.
-use mathlib.Core.Path.{refl, sym, ◌∙◌}
+use mathlib.Core.Path.{◌≡◌, refl, ◌∙◌}
+use mathlib.Core.Bool.{true, false}
+use Rattle.std.proofs.Common.{Err, arith}
+use Rattle.std.proofs.lemmas.Grind.{common_steps}
+use Rattle.std.proofs.lemmas.Result.{err_from_is_err_and}
 use Rattle.base_model.specs.Answers.{reply_of, said_of}
-use Rattle.rule_routes.specs.Edges.{steps_of}
-use Rattle.rule_layouts.specs.Flat.{inputs_of}
-use Rattle.rule_calls.specs.Areas.{work_in, store_in}
-use Rattle.rule_calls.proofs.Tables.{begin_over_lem}
+use Rattle.base_model.specs.declared.Refusal.TheVariants.{StepsInvalid}
+use Rattle.rule_routes.specs.Edges.{steps_of, table_fits}
+use Rattle.rule_calls.specs.Calls.{record_or}
+use Rattle.rule_calls.proofs.Tables.{begin_over_lem, begin_turned}
+use Rattle.set_places.specs.Given.{inputs_in}
+use Rattle.call_lengths.specs.Lent.{work_of, store_of_areas}
 use Rattle.call_checks.proofs.Passed.{done_passes, refused_says}
-use Rattle.call_begin.proofs.Beginning.{table_refused, first_refused}
+use Rattle.call_begin.proofs.Beginning.{first_refused}
 use Rattle.call_begin.proofs.begin.Goals as goal
 
-pub returns-then-not-table_fits : goal.returns-then-not-table_fits
-unfolding reply_of said_of
-returns-then-not-table_fits c =
-    table_refused _ _ _ _ _ (sym c.table_fits.ensures ∙ c.if-not-table_fits.true) c.no_record.ensures
+pub returns-in_err-ask : goal.returns-in_err-ask
+unfolding reply_of said_of record_or
+returns-in_err-ask c =
+    let t : table_fits c.args.steps.now ≡ false = grind (arith, common_steps, c.table_fits.ensures, c.ask.ensures, c.in_err-ask.was) in
+    let says : c.from_residual.result ≡ Err StepsInvalid = grind (arith, common_steps, c.from_residual.ensures, c.ask.ensures, c.in_err-ask.was) in
+    begin_turned c.args.steps.now t _ _ _ _ ∙ rw says refl
 
-pub returns-in-Refused : goal.returns-in-Refused
-unfolding reply_of inputs_of
-returns-in-Refused c =
-    let a = c.args in
-    let i = inputs_of a.query a.groups.now a.numbers.now a.edges.now a.block_base.now a.allow_base.now in
-    let w = work_in a.counts.now a.map.now a.queue.now a.predecessors.now a.route.now in
-    let s = store_in a.lists.now a.visited.now a.layouts.now a.points.now in
-    let n = c.place_count-places.ensures a.numbers.now a.edges.now refl refl in
-    let e = c.begin_checks-checked.ensures i w s refl refl (sym n) refl refl
-    (record { counts = refl; map = refl; queue = refl; predecessors = refl; route = refl }) (record { lists = refl; visited = refl; layouts = refl; points = refl }) in
-    begin_over_lem a.steps.now (sym c.table_fits.ensures ∙ c.if-not-table_fits.false) i a.limits w s
-    ∙ first_refused (steps_of a.steps.now) i a.limits w s (refused_says e c.in-Refused.is) c.no_record-in-Refused.ensures
+pub returns-in_err-begin_checks : goal.returns-in_err-begin_checks
+unfolding reply_of record_or
+returns-in_err-begin_checks c =
+    let i = inputs_in c.args.given.now in
+    let w = work_of c.args.work.now in
+    let s = store_of_areas c.args.store.now in
+    let t : table_fits c.args.steps.now ≡ true = grind (arith, common_steps, c.table_fits.ensures, c.ask.ensures, c.in_ok-ask.was) in
+    let p = err_from_is_err_and c.from_residual-in_err-begin_checks.result c.from_residual-in_err-begin_checks.ensures.1 in
+    begin_over_lem c.args.steps.now t i c.args.limits w s ∙ rw (p.1, p.2) (first_refused (steps_of c.args.steps.now) i c.args.limits w s
+    (refused_says (c.begin_checks.ensures w s c.lengths.ensures c.lengths-2.ensures) c.in_err-begin_checks.was))
 
 pub begin_checked-requires : goal.begin_checked-requires
-unfolding inputs_of
 begin_checked-requires c =
-    let a = c.args in
-    let i = inputs_of a.query a.groups.now a.numbers.now a.edges.now a.block_base.now a.allow_base.now in
-    let w = work_in a.counts.now a.map.now a.queue.now a.predecessors.now a.route.now in
-    let s = store_in a.lists.now a.visited.now a.layouts.now a.points.now in
-    let n = c.place_count-places.ensures a.numbers.now a.edges.now refl refl in
-    let e = c.begin_checks-checked.ensures i w s refl refl (sym n) refl refl
-    (record { counts = refl; map = refl; queue = refl; predecessors = refl; route = refl }) (record { lists = refl; visited = refl; layouts = refl; points = refl }) in
-    done_passes e c.in_default.is
+    done_passes (c.begin_checks.ensures (work_of c.args.work.now) (store_of_areas c.args.store.now) c.lengths.ensures c.lengths-2.ensures) c.in_ok-begin_checks.was
 
 pub returns : goal.returns
 returns c =
-    begin_over_lem _ (sym c.table_fits.ensures ∙ c.if-not-table_fits.false) _ _ _ _
-    ∙ c.begin_checked.ensures
+    let t : table_fits c.args.steps.now ≡ true = grind (arith, common_steps, c.table_fits.ensures, c.ask.ensures, c.in_ok-ask.was) in
+    begin_over_lem _ t _ _ _ _ ∙ c.begin_checked.ensures

@@ -20,15 +20,51 @@ returns-in_err-ask-2 c = λ b a e h. grind (arith, common_steps, c.from_residual
 
 pub returns-in_err-ask-3 : goal.returns-in_err-ask-3
 unfolding prepare_checks reply_of said_of ask first
-returns-in_err-ask-3 c = λ b a e h. grind (arith, common_steps, c.from_residual-in_err-ask-3.ensures, c.in_err-ask-3.was, c.ask-3.ensures, c.ask.ensures, c.in_ok-ask.was, c.ask-2.ensures, c.in_ok-ask-2.was)
+returns-in_err-ask-3 c = λ b a e h. grind (
+  arith,
+  common_steps,
+  c.from_residual-in_err-ask-3.ensures,
+  c.in_err-ask-3.was,
+  c.ask-3.ensures,
+  c.ask.ensures,
+  c.in_ok-ask.was,
+  c.ask-2.ensures,
+  c.in_ok-ask-2.was,
+)
 
 pub returns-in_err-ask-4 : goal.returns-in_err-ask-4
 unfolding prepare_checks reply_of said_of ask first
-returns-in_err-ask-4 c = λ b a e h. grind (arith, common_steps, c.from_residual-in_err-ask-4.ensures, c.in_err-ask-4.was, c.ask-4.ensures, c.ask.ensures, c.in_ok-ask.was, c.ask-2.ensures, c.in_ok-ask-2.was, c.ask-3.ensures, c.in_ok-ask-3.was)
+returns-in_err-ask-4 c = λ b a e h. grind (
+  arith,
+  common_steps,
+  c.from_residual-in_err-ask-4.ensures,
+  c.in_err-ask-4.was,
+  c.ask-4.ensures,
+  c.ask.ensures,
+  c.in_ok-ask.was,
+  c.ask-2.ensures,
+  c.in_ok-ask-2.was,
+  c.ask-3.ensures,
+  c.in_ok-ask-3.was,
+)
 
 pub returns-in_err-ask-5 : goal.returns-in_err-ask-5
 unfolding prepare_checks reply_of said_of ask first
-returns-in_err-ask-5 c = λ b a e h. grind (arith, common_steps, c.from_residual-in_err-ask-5.ensures, c.in_err-ask-5.was, c.ask-5.ensures, c.ask.ensures, c.in_ok-ask.was, c.ask-2.ensures, c.in_ok-ask-2.was, c.ask-3.ensures, c.in_ok-ask-3.was, c.ask-4.ensures, c.in_ok-ask-4.was)
+returns-in_err-ask-5 c = λ b a e h. grind (
+  arith,
+  common_steps,
+  c.from_residual-in_err-ask-5.ensures,
+  c.in_err-ask-5.was,
+  c.ask-5.ensures,
+  c.ask.ensures,
+  c.in_ok-ask.was,
+  c.ask-2.ensures,
+  c.in_ok-ask-2.was,
+  c.ask-3.ensures,
+  c.in_ok-ask-3.was,
+  c.ask-4.ensures,
+  c.in_ok-ask-4.was,
+)
 
 pub overflow_mul-asked : goal.overflow_mul-asked
 overflow_mul-asked c =
@@ -56,4 +92,19 @@ work_fits-long-requires c =
 
 pub returns : goal.returns
 unfolding prepare_checks reply_of said_of ask first
-returns c = λ b a e h. grind (arith, common_steps, e, c.ask-6.ensures, c.ask.ensures, c.in_ok-ask.was, c.ask-2.ensures, c.in_ok-ask-2.was, c.ask-3.ensures, c.in_ok-ask-3.was, c.ask-4.ensures, c.in_ok-ask-4.was, c.ask-5.ensures, c.in_ok-ask-5.was)
+returns c = λ b a e h. grind (
+  arith,
+  common_steps,
+  e,
+  c.ask-6.ensures,
+  c.ask.ensures,
+  c.in_ok-ask.was,
+  c.ask-2.ensures,
+  c.in_ok-ask-2.was,
+  c.ask-3.ensures,
+  c.in_ok-ask-3.was,
+  c.ask-4.ensures,
+  c.in_ok-ask-4.was,
+  c.ask-5.ensures,
+  c.in_ok-ask-5.was,
+)
