@@ -149,7 +149,8 @@ count_run s at n h e =
 -- ---- the answers of `digits`
 module _ (s : List ℕ) (at n : ℕ) (w : DigitRun s at (at + n)) where
   pub run_low : Low (take n (tail s at))
-  run_low = subst (λ (l : List ℕ). Low (take n l)) (sym (whole s at)) (record { low = λ k h. subst (λ (c : ℕ). 48 ≤ c) (sym (entry s at n w k h)) (w.low (at + k) (omega arith) (omega (arith, long s at n w))) })
+  run_low = subst (λ (l : List ℕ). Low (take n l)) (sym (whole s at))
+      (record { low = λ k h. subst (λ (c : ℕ). 48 ≤ c) (sym (entry s at n w k h)) (w.low (at + k) (omega arith) (omega (arith, long s at n w))) })
 
   pub digits_wrong : (before : List ℕ) → n ≡ 0 → DigitsRead s at before before (Err (error.Wrong at))
   digits_wrong before e = record { answer = record { bad = run_empty s at (let z : at + n ≡ at = omega arith in subst (λ (k : ℕ). DigitRun s at k) z w); area = refl } }
@@ -178,7 +179,8 @@ store_next l before out k h r e =
     let done : List ℕ = map (λ c. c - 48) (take k l) in
     let v : ℕ = get_or l k 0 - 48 in
     let few : length done ≡ k = length-map (take k l) (λ c. c - 48) ∙ length-take-le k l (omega arith) in
-    let next : map (λ c. c - 48) (take (k + 1) l) ≡ done ++ (v ∷ []) = ap (λ (n : ℕ). map (λ c. c - 48) (take n l)) (add-one k) ∙ ap (map (λ c. c - 48)) (take-suc l k 0 h) ∙ map-append (λ c. c - 48) (take k l) (get_or l k 0 ∷ []) in
+    let next : map (λ c. c - 48) (take (k + 1) l) ≡ done ++ (v ∷ []) = ap (λ (n : ℕ). map (λ c. c - 48) (take n l)) (add-one k) ∙ ap (map (λ c. c - 48)) (take-suc l k 0 h)
+        ∙ map-append (λ c. c - 48) (take k l) (get_or l k 0 ∷ []) in
     ap (λ (x : List ℕ). set x k v) (e ∙ ap (λ (x : List ℕ). done ++ x) (next_piece before k (omega arith)))
     ∙ set_at done (get_or before k 0) (drop (k + 1) before) v k few
     ∙ sym (append_assoc done (v ∷ []) (drop (k + 1) before))

@@ -124,7 +124,8 @@ module _ (pattern s : List ℕ) (at : ℕ) (before : List ℕ) (ok : good patter
       };
     }
 
-    pub few_read : (v : ℕ) → v ≡ fields pattern → v ≤ length before → (out : List ℕ) → Stored pattern s at before out → OptionalRead pattern s at before out (Ok (record { count = 1; used = v; next = n; fault = n }))
+    pub few_read : (v : ℕ) → v ≡ fields pattern → v ≤ length before → (out : List ℕ) → Stored pattern s at before out
+        → OptionalRead pattern s at before out (Ok (record { count = 1; used = v; next = n; fault = n }))
     unfolding flat
     few_read v e room out k =
         let wide : length stands.values ≡ v = line_count pattern stands.values stands.got.got.fits ∙ sym e in

@@ -3,7 +3,8 @@ use native.Mathlib.Omega.{arith}
 use Rattle.std.proofs.Common.{◌≡◌, rules, Err, sym, ◌∙◌}
 use Rattle.text_lines.proofs.Storing.{storing_number, storing_full, wrong_passed, wrong_stored, storing_byte, other_passed, other_stored, short_passed, short_stored, done_passed, done_stored}
 use Rattle.text_lines.proofs.walk.Goals as goal
-use Rattle.text_lines.proofs.walk.Goals.{then-i-s-via-then-i-s, then-i-s-via-else-i-s+then-s-i, then-is_number+in_ok-number+then-k-out, then-is_number+in_ok-number+else-k-out, else-is_number+else-i-s+else-s-i}
+use Rattle.text_lines.proofs.walk.Goals.{then-i-s-via-then-i-s, then-i-s-via-else-i-s+then-s-i, then-is_number+in_ok-number+then-k-out, then-is_number+in_ok-number+else-k-out}
+use Rattle.text_lines.proofs.walk.Goals.{else-is_number+else-i-s+else-s-i}
 
 pub returns-in_err-number-clause-passed : goal.returns-in_err-number-clause-passed
 returns-in_err-number-clause-passed c =
@@ -18,14 +19,18 @@ returns-in_err-number-clause-stored c =
 
 pub returns-then-i-s-clause-passed : goal.returns-then-i-s-clause-passed
 returns-then-i-s-clause-passed c = elim c.then-i-s.branch [
-  | then-i-s-via-then-i-s w ↦ short_passed _ _ _ _ _ _ _ _ c.loop-c.invariant c.loop-c-test.true (sym c.is_number.ensures ∙ c.if-is_number.false) w.if-i-s.true (omega (arith, c.type_inv.pattern c.loop-c.c-index))
-  | then-i-s-via-else-i-s+then-s-i w ↦ other_passed _ _ _ _ _ _ _ _ c.loop-c.invariant c.loop-c-test.true (sym c.is_number.ensures ∙ c.if-is_number.false) (let h = c.loop-c.invariant.walk.inside in omega arith) w.if-s-i.true
+  | then-i-s-via-then-i-s w ↦
+      short_passed _ _ _ _ _ _ _ _ c.loop-c.invariant c.loop-c-test.true (sym c.is_number.ensures ∙ c.if-is_number.false) w.if-i-s.true (omega (arith, c.type_inv.pattern c.loop-c.c-index))
+  | then-i-s-via-else-i-s+then-s-i w ↦
+      other_passed _ _ _ _ _ _ _ _ c.loop-c.invariant c.loop-c-test.true (sym c.is_number.ensures ∙ c.if-is_number.false) (let h = c.loop-c.invariant.walk.inside in omega arith) w.if-s-i.true
 ]
 
 pub returns-then-i-s-clause-stored : goal.returns-then-i-s-clause-stored
 returns-then-i-s-clause-stored c = elim c.then-i-s.branch [
-  | then-i-s-via-then-i-s w ↦ short_stored _ _ _ _ _ _ _ _ c.loop-c.invariant c.loop-c-test.true (sym c.is_number.ensures ∙ c.if-is_number.false) w.if-i-s.true (omega (arith, c.type_inv.pattern c.loop-c.c-index))
-  | then-i-s-via-else-i-s+then-s-i w ↦ other_stored _ _ _ _ _ _ _ _ c.loop-c.invariant c.loop-c-test.true (sym c.is_number.ensures ∙ c.if-is_number.false) (let h = c.loop-c.invariant.walk.inside in omega arith) w.if-s-i.true
+  | then-i-s-via-then-i-s w ↦
+      short_stored _ _ _ _ _ _ _ _ c.loop-c.invariant c.loop-c-test.true (sym c.is_number.ensures ∙ c.if-is_number.false) w.if-i-s.true (omega (arith, c.type_inv.pattern c.loop-c.c-index))
+  | then-i-s-via-else-i-s+then-s-i w ↦
+      other_stored _ _ _ _ _ _ _ _ c.loop-c.invariant c.loop-c-test.true (sym c.is_number.ensures ∙ c.if-is_number.false) (let h = c.loop-c.invariant.walk.inside in omega arith) w.if-s-i.true
 ]
 
 pub loop-c-preserved : goal.loop-c-preserved

@@ -17,7 +17,11 @@ pub returns-then-top-w : goal.returns-then-top-w
 returns-then-top-w c = taking_stops _ _ _ _ _ c.loop-i.invariant (omega arith) (λ g. omega (arith, g.below))
 
 pub loop-i-preserved : goal.loop-i-preserved
-loop-i-preserved c = let h = c.if-not-is_ascii_digit.ensures.cases in rw (c.from.ensures) (taking_next _ _ _ _ _ c.loop-i.invariant (omega arith) (record { low = omega (arith, h); high = omega (arith, h); positive = omega arith; below = omega (arith, c.from.ensures, h) }))
+loop-i-preserved c =
+    let h = c.if-not-is_ascii_digit.ensures.cases in
+    rw (c.from.ensures)
+    (taking_next _ _ _ _ _ c.loop-i.invariant (omega arith)
+    (record { low = omega (arith, h); high = omega (arith, h); positive = omega arith; below = omega (arith, c.from.ensures, h) }))
 
 pub returns : goal.returns
 returns c = let e : c.loop-i.i ≡ length c.args.s.now = omega arith in rw (← e) (taking_ends _ _ _ _ _ c.loop-i.invariant (omega arith))

@@ -21,4 +21,5 @@ pub overflow_sub-result : goal.overflow_sub-result
 overflow_sub-result c = let h = no_zero _ _ _ _ _ (omega arith) (let h = c.if-not-is_ascii_digit.ensures.cases in omega (arith, h)) c.decimal_at-r.ensures in omega (arith, h)
 
 pub returns : goal.returns
-returns c = minus_reads _ _ _ _ (omega arith) c.if-s-at-ne45.false (no_zero _ _ _ _ _ (omega arith) (let h = c.if-not-is_ascii_digit.ensures.cases in omega (arith, h)) c.decimal_at-r.ensures) c.decimal_at-r.ensures
+returns c = minus_reads _ _ _ _ (omega arith) c.if-s-at-ne45.false
+    (no_zero _ _ _ _ _ (omega arith) (let h = c.if-not-is_ascii_digit.ensures.cases in omega (arith, h)) c.decimal_at-r.ensures) c.decimal_at-r.ensures
