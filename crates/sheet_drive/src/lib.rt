@@ -5,29 +5,18 @@ ghost use Rattle.std.specs.Prelude.{◌≤◌, length};
 ghost use Rattle.sheet_texts.specs.Parts.{enough, Front};
 ghost use Rattle.sheet_form.specs.Sheets.{Sheet};
 ghost use Rattle.sheet_rule.specs.Drive.{drive_text};
-ghost use Rattle.sheet_allowed.specs.Inner.{Flat};
+ghost use Rattle.sheet_allowed.specs.Inner.{FlatAs};
 
-use base_model::{Answer, Limits, Query};
+use call_lengths::Work;
+use set_places::Given;
+use sheet_allowed::FlatSheet;
 use sheet_form::{MOST_CENTRES, MOST_COUNTS};
 
 // Prepares block, then the allowed mover if there is one, and searches.
-pub fn drive(
-    across: u32,
-    down: u32,
-    cells: &[u8],
-    obstacles: &[i32],
-    query: Query,
-    limits: Limits,
-    groups: &[u32],
-    numbers: &[u32],
-    edges: &[i32],
-    steps: &[i32],
-    out: &mut [u8],
-) -> usize
+pub fn drive(sheet: &FlatSheet<'_>, steps: &[i32], out: &mut [u8]) -> usize
     requires { enough ≤ length out.old }
     ensures { (s : Sheet)
-        → Flat s across down cells.now obstacles.now query limits
-        groups.now numbers.now edges.now
+        → FlatAs s sheet.now
         → Front (drive_text steps.now s) out.old out.new result }
 {
     let mut block_base = [0u8; MOST_CENTRES];
@@ -36,68 +25,31 @@ pub fn drive(
     let mut queue = [0u32; MOST_CENTRES];
     let mut predecessors = [0u32; MOST_CENTRES];
     let mut route = [0u32; MOST_CENTRES];
-    let window = query.window;
-    let start = query.start;
-    let end = query.end;
-    let block = query.block;
-    let answer = call_prepare::prepare(
-        across,
-        down,
-        cells,
-        obstacles,
-        window,
-        start,
-        end,
-        block,
+    let mut work = Work {
+        counts: &mut counts,
+        map: &mut map,
+        queue: &mut queue,
+        predecessors: &mut predecessors,
+        route: &mut route,
+    };
+    let query = sheet.query;
+    if let Err(refusal) = call_prepare::prepare(
+        &sheet.preparing(query.block),
         steps,
         &mut block_base,
-        &mut counts,
-        &mut map,
-        &mut queue,
-        &mut predecessors,
-        &mut route,
-    );
-    if let Answer::Refused(r) = answer {
-        return sheet_write::write_refusal(out, r);
+        &mut work,
+    ) {
+        return sheet_write::write_refusal(out, refusal);
     }
-    let allow = query.allow;
-    if let Some(mover) = allow {
-        return sheet_allowed::allowed(
-            across,
-            down,
-            cells,
-            obstacles,
-            mover,
-            query,
-            limits,
-            groups,
-            numbers,
-            edges,
-            &block_base,
-            steps,
-            &mut counts,
-            &mut map,
-            &mut queue,
-            &mut predecessors,
-            &mut route,
-            out,
-        );
+    if let Some(mover) = query.allow {
+        return sheet_allowed::allowed(sheet, mover, &block_base, steps, &mut work, out);
     }
     let no_base = [0u8; MOST_CENTRES];
-    sheet_search::search(
+    let given = Given {
         query,
-        limits,
-        groups,
-        numbers,
-        edges,
-        &block_base,
-        &no_base,
-        steps,
-        &mut counts,
-        &mut map,
-        &mut queue,
-        &mut predecessors,
-        &mut route,
-        out,
-    )
+        places: sheet.places,
+        block_base: &block_base,
+        allow_base: &no_base,
+    };
+    sheet_search::search(&given, sheet.limits, steps, &mut work, out)
 }

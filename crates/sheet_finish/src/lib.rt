@@ -2,78 +2,34 @@
 #![tactic(auto)]
 
 ghost use Rattle.std.proofs.Math.Option.{none};
-ghost use Rattle.rule_layouts.specs.Flat.{inputs_of};
-ghost use Rattle.rule_calls.specs.Areas.{work_in, store_in};
+ghost use Rattle.set_places.specs.Given.{inputs_in};
+ghost use Rattle.call_lengths.specs.Lent.{work_of, store_of_areas};
 ghost use Rattle.sheet_texts.specs.Parts.{Front};
 ghost use Rattle.sheet_rule.specs.Drive.{step_text};
 ghost use Rattle.sheet_finish.specs.Inner.{Steppable};
 
-use base_model::{Answer, Limits, Query, Record};
+use base_model::{Limits, Record};
+use call_lengths::{Store, Work};
+use set_places::Given;
 
 // Steps a begun search once by the state limit, and writes what that leaves, or the refusal.
 pub fn finish(
-    query: Query,
+    given: &Given<'_>,
     limits: Limits,
-    groups: &[u32],
-    numbers: &[u32],
-    edges: &[i32],
-    block_base: &[u8],
-    allow_base: &[u8],
     steps: &[i32],
     rec: Record,
-    counts: &mut [i32],
-    map: &mut [u8],
-    queue: &mut [u32],
-    predecessors: &mut [u32],
-    route: &mut [u32],
-    lists: &mut [u16],
-    visited: &mut [u16],
-    layouts: &mut [u16],
-    points: &mut [u32],
+    work: &mut Work<'_>,
+    store: &mut Store<'_>,
     out: &mut [u8],
 ) -> usize
-    requires { Steppable rec points.old out.old }
+    requires { Steppable rec store.old.points.now out.old }
     ensures { Front
-        (step_text steps.now
-        (inputs_of query groups.now numbers.now edges.now
-        block_base.now allow_base.now)
-        limits
-        (record {
-          answer = none;
-          rec = rec;
-          work =
-              work_in counts.old map.old queue.old
-              predecessors.old route.old;
-          store =
-              store_in lists.old visited.old layouts.old points.old;
-        }))
+        (step_text steps.now (inputs_in given.now) limits
+        (record { answer = none; rec = rec; work = work_of work.old; store = store_of_areas store.old }))
         out.old out.new result }
 {
-    let stepped = call_step::step(
-        query,
-        limits,
-        groups,
-        numbers,
-        edges,
-        block_base,
-        allow_base,
-        steps,
-        rec,
-        limits.states,
-        counts,
-        map,
-        queue,
-        predecessors,
-        route,
-        lists,
-        visited,
-        layouts,
-        points,
-    );
-    let answer = stepped.answer;
-    if let Answer::Refused(r) = answer {
-        return sheet_write::write_refusal(out, r);
+    match call_step::step(given, limits, steps, rec, limits.states, work, store) {
+        Ok(end) => sheet_write::write_result(out, end, store.layouts, store.points),
+        Err(refusal) => sheet_write::write_refusal(out, refusal),
     }
-    let end = stepped.rec;
-    sheet_write::write_result(out, end, layouts, points)
 }
