@@ -1,8 +1,7 @@
 -- The spots of centres: a row is found from another row by its start, and the centre's column is what is left.
 use Prim.Native.Nat.{ℕ, zero, suc, ◌+◌, ◌-◌, ◌*◌, ◌/◌, ◌%◌, ◌≤◌, ◌<◌}
 use mathlib.Core.Path.{◌≡◌, sym, ap, ◌∙◌}
-use native.Mathlib.Nat.{suc-mul, zero-mul, le-mul_of_pos_right}
-use native.Mathlib.Numerals.{add-one}
+use native.Mathlib.Nat.{suc-mul, zero-mul}
 use native.Mathlib.Omega.{arith}
 use lib.Arith.{digits_div, digits_mod}
 use Rattle.set_extend.specs.declared.Spot.{Spot}
@@ -52,16 +51,6 @@ pub record RowsDown (width v x y : ℕ) : Type 0 where
   pub upto : x ≤ v
   pub row : v - x ≡ y * width
 
-pub down_start : (width v : ℕ) (p : Spot) → RowStarts width p → p.start ≤ v → RowsDown width v (v - p.start) p.y
-down_start width v p b h = record { upto = omega arith; row = omega (arith, b.start) }
-
 module _ (width v x y : ℕ) (d : RowsDown width v x y) where
-  pub down_more : width ≤ x → RowsDown width v (x - width) (y + 1)
-  down_more h = record { upto = omega (arith, d.upto); row = rw (add-one y) (omega (arith, d.upto, d.row, suc-mul y width)) }
-
-  -- the row's number is no greater than its start
-  pub down_few : 0 < width → y + x ≤ v
-  down_few w = omega (arith, d.upto, d.row, le-mul_of_pos_right y w)
-
   pub down_found : x < width → ◌≡◌ {A = Spot} (record { x = x; y = y; start = v - x }) (spot_of width v)
   down_found h = spot_found width v x y (v - x) d.row (omega (arith, d.upto)) h

@@ -6,9 +6,6 @@ use native.Mathlib.Omega.{arith}
 use Rattle.set_extend.specs.Spots.{spot_of}
 use Rattle.set_extend.proofs.spot_of.Goals as goal
 
-pub overflow_sub-result : goal.overflow_sub-result
-overflow_sub-result c = omega (arith, div-add-mod' c.args.v c.args.width)
-
 pub returns : goal.returns
 unfolding spot_of
 returns c =
