@@ -45,6 +45,7 @@ fn record_of(rec: &[u32]) -> Record
 }
 
 // The record that the numbers are: none where there are too few of them, or pending is neither 0 nor 1.
+#[tactic(auto, using(crate::proofs::Reading::reading))]
 pub fn record_in(rec: &[u32]) -> Record
     ensures { result ≡ record_in rec.now }
 {
