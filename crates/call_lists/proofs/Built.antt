@@ -1,7 +1,7 @@
 -- The lists looked at in the order in which they were made, with the placements last taken from them as the members of the next list's set.
 use Prim.Native.Nat.{ℕ, suc, ◌+◌, ◌*◌, ◌≤◌, ◌<◌}
 use mathlib.Core.Path.{◌≡◌, refl, sym, ◌∙◌, ap, ap₂}
-use mathlib.Core.Bool.{Bool, true, false, not, ◌&&◌, ◌||◌, and-false}
+use mathlib.Core.Bool.{Bool, true, false, not, ◌&&◌, ◌||◌, and-false, or-false}
 use mathlib.Core.List.{List, [], ◌∷◌, ◌++◌, map, map-append}
 use native.Mathlib.Decide.{ℕ_discrete}
 use native.Mathlib.Numerals.{add-one}
@@ -20,7 +20,7 @@ use Rattle.rule_search.specs.State.{last_taken, set_on}
 use Rattle.rule_calls.specs.Areas.{list_of, lists_of}
 use Rattle.call_rows.proofs.Tests.{below_none, below_more}
 use Rattle.call_lists.specs.Lent.{entry_fits, head_fits, stood, list_passes}
-use Rattle.call_lists.proofs.Tests.{all_same, or_none}
+use Rattle.call_lists.proofs.Tests.{all_same}
 use Rattle.call_lists.proofs.Joins.{last_of, join_order}
 
 -- list k's place
@@ -44,7 +44,7 @@ head_facts r n next length k e =
           ltb-false (suc k) r.lists
           (neither (ltb (suc k) r.lists) r.pending
           (not-true (ltb (suc k) r.lists || r.pending)
-          (sym (or_none (not (ltb (suc k) r.lists || r.pending))) ∙ ap (λ (m : ℕ). not (ltb (suc k) r.lists || r.pending) || ltb 0 m) (sym z) ∙ a.1))).0;
+          (sym (or-false (not (ltb (suc k) r.lists || r.pending))) ∙ ap (λ (m : ℕ). not (ltb (suc k) r.lists || r.pending) || ltb 0 m) (sym z) ∙ a.1))).0;
     }
 
 module _ (p : Places) (r : Record) (lists : List ℕ) where

@@ -2,7 +2,7 @@
 -- placements last taken from them as members.
 use Prim.Native.Nat.{ℕ, zero, suc, ◌+◌, ◌*◌, ◌≤◌, ◌<◌}
 use mathlib.Core.Path.{◌≡◌, refl, sym, ◌∙◌, ap}
-use mathlib.Core.Bool.{Bool, true, false, not, ◌&&◌, ◌||◌, or_comm, or_assoc}
+use mathlib.Core.Bool.{Bool, true, false, not, ◌&&◌, ◌||◌, or_comm, or_assoc, or-false}
 use mathlib.Core.List.{List, [], ◌∷◌, ◌++◌, map, map-append}
 use native.Mathlib.Omega.{arith}
 use lib.Dec.{eqb, ltb}
@@ -25,7 +25,6 @@ use Rattle.set_places.specs.declared.FlatPlaces.{FlatPlaces}
 use Rattle.set_places.specs.Groups.{of_group, taken}
 use Rattle.set_places.proofs.Members.{all_is, fewer_is}
 use Rattle.call_lists.specs.Lent.{apart, entry_fits, Beside}
-use Rattle.call_lists.proofs.Tests.{or_none}
 
 -- ---- the members, one at a time
 neither_nor : (a b c d : Bool) → (not a && not b) && (not c && not d) ≡ not (a || c) && not (b || d)
@@ -99,7 +98,7 @@ module _ (r : Record) (lists : List ℕ) where
       any_insert f v (set_on (lists_of r lists k))
       ∙ ap (λ (b : Bool). f v || b) (any_order f k)
       ∙ or_comm (f v) (any_of f l)
-      ∙ sym (ap (any_of f) (last_more k) ∙ any_append f l (v ∷ []) ∙ ap (λ (b : Bool). any_of f l || b) (or_none (f v)))
+      ∙ sym (ap (any_of f) (last_more k) ∙ any_append f l (v ∷ []) ∙ ap (λ (b : Bool). any_of f l || b) (or-false (f v)))
 
   count_order : (f : ℕ → Bool) (k : ℕ) → length (select f (set_on (lists_of r lists k))) ≡ length (select f (map (last_of r lists) (below k)))
   unfolding set_on lists_of last_of select below span

@@ -1,12 +1,8 @@
 -- Tests of the entries of a list that agree.
 use mathlib.Core.Path.{◌≡◌, refl, ap₂}
-use mathlib.Core.Bool.{Bool, true, false, ◌&&◌, ◌||◌}
+use mathlib.Core.Bool.{Bool, ◌&&◌}
 use mathlib.Core.List.{List, [], ◌∷◌}
 use Rattle.base_laws.specs.Lists.{all_of}
-
-pub or_none : (b : Bool) → b || false ≡ b
-or_none true = refl
-or_none false = refl
 
 module _ {A : Type 0} (f : A → Bool) where
   pub all_same : (g : A → Bool) (xs : List A) → ((x : A) → f x ≡ g x) → all_of f xs ≡ all_of g xs
