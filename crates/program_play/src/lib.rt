@@ -1,229 +1,68 @@
 // One stored search: its movers prepared, begun, stepped by each portion, its layouts read and judged.
 #![tactic(auto)]
 
-use base_model::Record;
-use program_calls::{Centres, Counts, Layouts, Lists, Marks, Points, Visited};
-use program_words::stored::Head;
-use program_words::{answers, say};
+use base_model::ROW;
+use call_lengths::{Store, Work};
+use program_calls::prepare_mover;
+use program_words::answers;
+use program_words::stored::{Bases, Search};
 use std::io;
 use std::io::Write;
 
 // Begins over the baselines, steps by each portion, then reads and judges.
 fn search_on<W: Write>(
     out: &mut W,
-    head: Head,
-    groups: &[u32],
-    numbers: &[u32],
-    edges: &[i32],
-    portions: &[u32],
-    selections: &[u16],
-    block: &[u8],
-    allow: &[u8],
+    search: &Search<'_>,
+    bases: Bases<'_>,
     steps: &[i32],
-    counts: &mut Counts,
-    map: &mut Marks,
-    queue: &mut Centres,
-    predecessors: &mut Centres,
-    route: &mut Centres,
-    lists: &mut Lists,
-    visited: &mut Visited,
-    layouts: &mut Layouts,
-    points: &mut Points,
+    work: &mut Work<'_>,
+    store: &mut Store<'_>,
 ) -> io::Result<()> {
-    let query = head.query;
-    let limits = head.limits;
-    let reply = call_begin::begin(
-        query,
-        limits,
-        groups,
-        numbers,
-        edges,
-        block,
-        allow,
-        steps,
-        counts,
-        map,
-        queue,
-        predecessors,
-        route,
-        lists,
-        visited,
-        layouts,
-        points,
-    );
-    say::word(out, b"begin")?;
-    let answer = reply.answer;
-    if answers::say_answer(out, answer)? != 0 {
-        return say::end(out);
-    }
-    let first: Record = reply.rec;
-    answers::show(out, first, head, lists, visited, layouts, points)?;
-    let last = program_calls::step_all(
-        out,
-        portions,
-        head,
-        groups,
-        numbers,
-        edges,
-        block,
-        allow,
-        steps,
-        first,
-        counts,
-        map,
-        queue,
-        predecessors,
-        route,
-        lists,
-        visited,
-        layouts,
-        points,
-    )?;
-    program_calls::read_all(
-        out, head, groups, numbers, edges, block, allow, last, lists, visited, layouts, points,
-    )?;
+    let given = search.given(bases);
+    let begun = call_begin::begin(&given, search.limits, steps, work, store);
+    write!(out, "begin")?;
+    answers::say_answer(out, &begun)?;
+    let Ok(first) = begun else {
+        return writeln!(out);
+    };
+    answers::show(out, &first, search, &store.kept())?;
+    let last = program_calls::step_all(out, search, &given, steps, first, work, store)?;
+    let kept = store.kept();
+    program_calls::read_all(out, search, &given, last, &kept)?;
     program_calls::judge_all(
         out,
-        layouts,
-        last.layouts,
-        head,
-        groups,
-        numbers,
-        edges,
-        block,
-        allow,
+        kept.layouts,
+        last.layouts as usize,
+        &given,
         steps,
-        counts,
-        map,
-        queue,
-        predecessors,
-        route,
+        work,
     )?;
-    program_calls::judge_all(
-        out,
-        selections,
-        answers::rows_of(selections.len()),
-        head,
-        groups,
-        numbers,
-        edges,
-        block,
-        allow,
-        steps,
-        counts,
-        map,
-        queue,
-        predecessors,
-        route,
-    )
+    let selections = search.selections;
+    program_calls::judge_all(out, selections, selections.len() / ROW, &given, steps, work)
 }
 
 // Prepares both movers, unless baselines are handed in, then searches.
 pub fn search_for<W: Write>(
     out: &mut W,
-    head: Head,
-    cells: &[u8],
-    obstacles: &[i32],
-    groups: &[u32],
-    numbers: &[u32],
-    edges: &[i32],
-    portions: &[u32],
-    selections: &[u16],
-    given_block: &[u8],
-    given_allow: &[u8],
+    search: &Search<'_>,
     steps: &[i32],
-    block: &mut Marks,
-    allow: &mut Marks,
-    counts: &mut Counts,
-    map: &mut Marks,
-    queue: &mut Centres,
-    predecessors: &mut Centres,
-    route: &mut Centres,
-    lists: &mut Lists,
-    visited: &mut Visited,
-    layouts: &mut Layouts,
-    points: &mut Points,
+    block: &mut [u8],
+    allow: &mut [u8],
+    work: &mut Work<'_>,
+    store: &mut Store<'_>,
 ) -> io::Result<()> {
-    say::word(out, b"search")?;
-    say::number(out, head.number)?;
-    say::end(out)?;
-    if head.given {
-        return search_on(
-            out,
-            head,
-            groups,
-            numbers,
-            edges,
-            portions,
-            selections,
-            given_block,
-            given_allow,
-            steps,
-            counts,
-            map,
-            queue,
-            predecessors,
-            route,
-            lists,
-            visited,
-            layouts,
-            points,
-        );
+    writeln!(out, "search {}", search.number)?;
+    if let Some(bases) = search.bases {
+        return search_on(out, search, bases, steps, work, store);
     }
-    let query = head.query;
-    let fine = program_calls::prepare_mover(
-        out,
-        b"block",
-        head,
-        query.block,
-        cells,
-        obstacles,
-        steps,
-        block,
-        counts,
-        map,
-        queue,
-        predecessors,
-        route,
-    )?;
-    let also = program_calls::prepare_allowed(
-        out,
-        head,
-        cells,
-        obstacles,
-        steps,
-        allow,
-        counts,
-        map,
-        queue,
-        predecessors,
-        route,
-    )?;
-    if !fine {
-        return Ok(());
+    let query = search.query;
+    let fine = prepare_mover(out, "block", search, query.block, steps, block, work)?;
+    let also = match query.allow {
+        None => true,
+        Some(mover) => prepare_mover(out, "allow", search, mover, steps, allow, work)?,
+    };
+    if fine && also {
+        return search_on(out, search, Bases { block, allow }, steps, work, store);
     }
-    if !also {
-        return Ok(());
-    }
-    search_on(
-        out,
-        head,
-        groups,
-        numbers,
-        edges,
-        portions,
-        selections,
-        block,
-        allow,
-        steps,
-        counts,
-        map,
-        queue,
-        predecessors,
-        route,
-        lists,
-        visited,
-        layouts,
-        points,
-    )
+    Ok(())
 }

@@ -1,8 +1,9 @@
-// A stored search as the numbers of a line: its head, and where each run of the line ends.
+// A stored search: what it is given beside the areas, as the numbers of a line say it.
 ghost use Rattle.std.specs.Prelude.{◌≤◌};
 
-use crate::words;
+use crate::words::Line;
 use base_model::{Bounds, EDGES, Limits, NUMBERS, Position, Query, ROW, Rect, SIDES};
+use set_places::{FlatPlaces, Given};
 
 // Where the numbers of a line stand: one number each, but for the window's four, each end's two, the blocked mover's four, and the
 // allowed mover's five, the first of which is 0 where there is none.
@@ -45,162 +46,139 @@ const POINTS_AT: usize = 29;
 const GIVEN_AT: usize = 30;
 
 // Where the runs begin.
-pub const RUNS: usize = 31;
+const RUNS: usize = 31;
 
-// What a search is given beside slices: its number, the map's size, whether baselines are handed in, and the sizes that digests go by.
+// The movers' baselines.
 #[derive(Clone, Copy)]
-pub struct Head {
+pub struct Bases<'a> {
+    pub block: &'a [u8],
+    pub allow: &'a [u8],
+}
+
+// A stored search: its number, the map's size, cells and obstacles, the query, its limits, the placements, the portions it is stepped by,
+// the selections that are judged, and the sizes that digests go by.
+#[derive(Clone, Copy)]
+pub struct Search<'a> {
     pub number: u32,
     pub across: u32,
     pub down: u32,
-    pub given: bool,
-    pub places: u32,
-    pub centres: u32,
-    pub points: u32,
+    pub cells: &'a [u8],
+    pub obstacles: &'a [i32],
     pub query: Query,
     pub limits: Limits,
+    pub places: FlatPlaces<'a>,
+    pub portions: &'a [u32],
+    pub selections: &'a [u16],
+    // where the baselines are handed in
+    pub bases: Option<Bases<'a>>,
+    pub centres: usize,
+    pub points: usize,
+}
+
+// The point that stands at a place.
+fn position_at(line: &Line, i: usize) -> Position
+    requires { i ≤ 31 }
+{
+    Position {
+        x: line.at(i),
+        y: line.at(i + 1),
+    }
 }
 
 // The four bounds that stand at a place.
-fn bounds_at(xs: &[u32], i: usize) -> Bounds {
-    if RUNS < i {
-        return Bounds {
-            left: 0,
-            top: 0,
-            right: 0,
-            bottom: 0,
-        };
-    }
+fn bounds_at(line: &Line, i: usize) -> Bounds
+    requires { i ≤ 31 }
+{
     Bounds {
-        left: words::at(xs, i),
-        top: words::at(xs, i + 1),
-        right: words::at(xs, i + 2),
-        bottom: words::at(xs, i + 3),
+        left: line.at(i),
+        top: line.at(i + 1),
+        right: line.at(i + 2),
+        bottom: line.at(i + 3),
     }
-}
-
-fn allow_at(xs: &[u32], i: usize) -> Option<Bounds> {
-    if RUNS < i {
-        return None;
-    }
-    if words::at(xs, i) == 0 {
-        return None;
-    }
-    Some(bounds_at(xs, i + 1))
 }
 
 // The query of a line.
-fn query_of(unsigned: &[u32], signed: &[i32]) -> Query {
-    let window = Rect {
-        left: words::edge_at(signed, WINDOW_AT),
-        top: words::edge_at(signed, WINDOW_AT + 1),
-        right: words::edge_at(signed, WINDOW_AT + 2),
-        bottom: words::edge_at(signed, WINDOW_AT + 3),
-    };
-    let start = Position {
-        x: words::at(unsigned, START_AT),
-        y: words::at(unsigned, START_AT + 1),
-    };
-    let end = Position {
-        x: words::at(unsigned, END_AT),
-        y: words::at(unsigned, END_AT + 1),
-    };
-    let block = bounds_at(unsigned, BLOCK_AT);
-    let allow = allow_at(unsigned, ALLOW_AT);
+fn query_of(line: &Line) -> Query {
     Query {
-        window: window,
-        start: start,
-        end: end,
-        block: block,
-        allow: allow,
+        window: Rect {
+            left: line.edge_at(WINDOW_AT),
+            top: line.edge_at(WINDOW_AT + 1),
+            right: line.edge_at(WINDOW_AT + 2),
+            bottom: line.edge_at(WINDOW_AT + 3),
+        },
+        start: position_at(line, START_AT),
+        end: position_at(line, END_AT),
+        block: bounds_at(line, BLOCK_AT),
+        allow: if line.at(ALLOW_AT) == 0 {
+            None
+        } else {
+            Some(bounds_at(line, ALLOW_AT + 1))
+        },
     }
 }
 
-// The numbers of a line that stand before its runs, but for how long these are.
-pub fn head_of(unsigned: &[u32], signed: &[i32]) -> Head {
-    let query = query_of(unsigned, signed);
-    let limits = Limits {
-        states: words::at(unsigned, STATES_AT),
-        results: words::at(unsigned, RESULTS_AT),
-    };
-    Head {
-        number: words::at(unsigned, NUMBER_AT),
-        across: words::at(unsigned, ACROSS_AT),
-        down: words::at(unsigned, DOWN_AT),
-        given: words::at(unsigned, GIVEN_AT) != 0,
-        places: words::at(unsigned, PLACES_AT),
-        centres: words::at(unsigned, CENTRES_AT),
-        points: words::at(unsigned, POINTS_AT),
-        query: query,
-        limits: limits,
+impl<'a> Search<'a> {
+    // The search of a line, whose runs stand one after the other, each as long as the line says; none where they do not fill the line.
+    pub fn of(line: &'a Line) -> Option<Search<'a>> {
+        let query = query_of(line);
+        let is_given = line.at(GIVEN_AT) != 0;
+        let centres = if is_given {
+            line.count_at(CENTRES_AT)
+        } else {
+            0
+        };
+        let places = line.count_at(PLACES_AT);
+        let cells = RUNS + line.count_at(CELLS_AT);
+        let obstacles = cells + SIDES * line.count_at(OBSTACLES_AT);
+        let groups = obstacles + line.count_at(GROUPS_AT);
+        let numbers = groups + NUMBERS * places;
+        let edges = numbers + EDGES * places;
+        let portions = edges + line.count_at(PORTIONS_AT);
+        let selections = portions + ROW * line.count_at(SELECTIONS_AT);
+        let block = selections + centres;
+        let allow = if query.allow.is_some() {
+            block + centres
+        } else {
+            block
+        };
+        if line.count() != allow {
+            return None;
+        }
+        let bases = Bases {
+            block: line.bytes().get(selections..block)?,
+            allow: line.bytes().get(block..allow)?,
+        };
+        Some(Search {
+            number: line.at(NUMBER_AT),
+            across: line.at(ACROSS_AT),
+            down: line.at(DOWN_AT),
+            cells: line.bytes().get(RUNS..cells)?,
+            obstacles: line.signed().get(cells..obstacles)?,
+            query,
+            limits: Limits {
+                states: line.at(STATES_AT),
+                results: line.at(RESULTS_AT),
+            },
+            places: FlatPlaces {
+                groups: line.unsigned().get(obstacles..groups)?,
+                numbers: line.unsigned().get(groups..numbers)?,
+                edges: line.signed().get(numbers..edges)?,
+            },
+            portions: line.unsigned().get(edges..portions)?,
+            selections: line.shorts().get(portions..selections)?,
+            bases: if is_given { Some(bases) } else { None },
+            centres: line.at(CENTRES_AT) as usize,
+            points: line.at(POINTS_AT) as usize,
+        })
     }
-}
 
-// How many centres each baseline that is handed in has: none where none is.
-fn given_of(unsigned: &[u32]) -> usize
-    ensures { result ≤ 4096 }
-{
-    if words::at(unsigned, GIVEN_AT) == 0 {
-        return 0;
-    }
-    words::count_at(unsigned, CENTRES_AT)
-}
-
-// The same for the allowed mover.
-fn given_too(unsigned: &[u32]) -> usize
-    ensures { result ≤ 4096 }
-{
-    if words::at(unsigned, ALLOW_AT) == 0 {
-        return 0;
-    }
-    given_of(unsigned)
-}
-
-// The place after each run of a line.
-#[derive(Clone, Copy)]
-pub struct Ends {
-    pub cells: usize,
-    pub obstacles: usize,
-    pub groups: usize,
-    pub numbers: usize,
-    pub edges: usize,
-    pub portions: usize,
-    pub selections: usize,
-    pub block: usize,
-    pub allow: usize,
-}
-
-// The runs stand one after the other, each as long as the line says.
-pub fn ends_of(unsigned: &[u32]) -> Ends
-    ensures { (31 ≤ result.cells)
-        × (result.cells ≤ result.obstacles)
-        × (result.obstacles ≤ result.groups)
-        × (result.groups ≤ result.numbers)
-        × (result.numbers ≤ result.edges)
-        × (result.edges ≤ result.portions)
-        × (result.portions ≤ result.selections)
-        × (result.selections ≤ result.block)
-        × (result.block ≤ result.allow)
-        × (result.allow ≤ 200000) }
-{
-    let places = words::count_at(unsigned, PLACES_AT);
-    let cells = RUNS + words::count_at(unsigned, CELLS_AT);
-    let obstacles = cells + SIDES * words::count_at(unsigned, OBSTACLES_AT);
-    let groups = obstacles + words::count_at(unsigned, GROUPS_AT);
-    let numbers = groups + NUMBERS * places;
-    let edges = numbers + EDGES * places;
-    let portions = edges + words::count_at(unsigned, PORTIONS_AT);
-    let selections = portions + ROW * words::count_at(unsigned, SELECTIONS_AT);
-    let block = selections + given_of(unsigned);
-    Ends {
-        cells: cells,
-        obstacles: obstacles,
-        groups: groups,
-        numbers: numbers,
-        edges: edges,
-        portions: portions,
-        selections: selections,
-        block: block,
-        allow: block + given_too(unsigned),
+    // What a search over these baselines is given.
+    pub fn given(&self, bases: Bases<'a>) -> Given<'a> {
+        Given {
+            query: self.query,
+            places: self.places,
+            block_base: bases.block,
+            allow_base: bases.allow,
+        }
     }
 }

@@ -1,166 +1,140 @@
 // Lines of decimal numbers, read into one area for each width.
-ghost use Rattle.std.specs.Prelude.{◌≤◌};
+ghost use Rattle.std.specs.Prelude.{◌≤◌, ◌<◌, length, IfSome};
 
-// The most numbers that are kept of a line.
+// The most numbers of a line.
 pub const MOST_NUMBERS: usize = 4096;
 
-// How far a line was read: how many numbers stand on it, the place after it, and whether it holds anything but numbers.
-#[derive(Clone, Copy)]
-pub struct Span {
-    pub count: usize,
-    pub next: usize,
-    pub bad: bool,
-}
-
-// A number as it is read: its digits so far, and whether a minus sign stands before them.
+// A number as it is read: its digits so far, and whether a minus sign stands among them.
 #[derive(Clone, Copy)]
 struct Word {
     value: u32,
     minus: bool,
-    bad: bool,
 }
 
-// No digit yet.
-fn blank(bad: bool) -> Word {
-    Word {
+impl Word {
+    // No digit yet.
+    const BLANK: Word = Word {
         value: 0,
         minus: false,
-        bad: bad,
-    }
-}
+    };
 
-// A number after one more byte.
-fn grown(w: Word, c: u8) -> Word {
-    if c == 45 {
-        return Word {
-            value: w.value,
-            minus: true,
-            bad: w.bad,
-        };
-    }
-    if c < 48 {
-        return blank(true);
-    }
-    if 57 < c {
-        return blank(true);
-    }
-    if 429496729 < w.value {
-        return blank(true);
-    }
-    let digit = (c - 48) as u32;
-    if 4294967295 - digit < w.value * 10 {
-        return blank(true);
-    }
-    Word {
-        value: w.value * 10 + digit,
-        minus: w.minus,
-        bad: w.bad,
-    }
-}
-
-// A number as a word of 32 bits.
-fn word_of(w: Word) -> u32 {
-    if !w.minus {
-        return w.value;
-    }
-    if w.value == 0 {
-        return 0;
-    }
-    4294967295 - (w.value - 1)
-}
-
-fn byte_of(x: u32) -> u8 {
-    if 255 < x {
-        return 255;
-    }
-    x as u8
-}
-
-fn short_of(x: u32) -> u16 {
-    if 65535 < x {
-        return 65535;
-    }
-    x as u16
-}
-
-// Puts a number to its place, in each of the widths: the largest number of a width that it does not fit.
-fn put(
-    w: Word,
-    k: usize,
-    unsigned: &mut [u32; MOST_NUMBERS],
-    signed: &mut [i32; MOST_NUMBERS],
-    bytes: &mut [u8; MOST_NUMBERS],
-    shorts: &mut [u16; MOST_NUMBERS],
-) {
-    if MOST_NUMBERS <= k {
-        return;
-    }
-    let x = word_of(w);
-    unsigned[k] = x;
-    signed[k] = sheet_words::edge(x);
-    bytes[k] = byte_of(x);
-    shorts[k] = short_of(x);
-}
-
-// Reads the numbers of the line at a place; a number ends at a space or at the line's end.
-pub fn line(
-    s: &[u8],
-    at: usize,
-    unsigned: &mut [u32; MOST_NUMBERS],
-    signed: &mut [i32; MOST_NUMBERS],
-    bytes: &mut [u8; MOST_NUMBERS],
-    shorts: &mut [u16; MOST_NUMBERS],
-) -> Span {
-    let mut k = 0;
-    let mut i = at;
-    let mut w = blank(false);
-    while i < s.len() {
-        let c = s[i];
-        i = i + 1;
-        if 32 < c {
-            w = grown(w, c);
-            continue;
+    // The number after one more byte; none where the byte is neither a digit nor a sign, or the number is too large.
+    fn grown(self, c: u8) -> Option<Word> {
+        match c {
+            b'-' => Some(Word {
+                minus: true,
+                ..self
+            }),
+            b'0'..=b'9' => {
+                let value = self.value.checked_mul(10)?.checked_add((c - b'0') as u32)?;
+                Some(Word { value, ..self })
+            }
+            _ => None,
         }
-        put(w, k, unsigned, signed, bytes, shorts);
-        k = k + 1;
-        if c == 10 {
-            return Span {
-                count: k,
-                next: i,
-                bad: w.bad,
-            };
+    }
+
+    // The number as a word of 32 bits.
+    fn number(self) -> u32 {
+        if self.minus {
+            self.value.wrapping_neg()
+        } else {
+            self.value
         }
-        w = blank(w.bad);
-    }
-    Span {
-        count: k,
-        next: i,
-        bad: true,
     }
 }
 
-// The number at a place, 0 where there is none.
-pub fn at(xs: &[u32], i: usize) -> u32 {
-    if xs.len() <= i {
-        return 0;
-    }
-    xs[i]
+// The numbers of a line in each of the widths: where a number does not fit, the largest of the width.
+#[derive(Drop)]
+pub struct Line {
+    count: usize,
+    unsigned: [u32; MOST_NUMBERS],
+    signed: [i32; MOST_NUMBERS],
+    bytes: [u8; MOST_NUMBERS],
+    shorts: [u16; MOST_NUMBERS],
+    ghost within: { count ≤ 4096 },
 }
 
-pub fn edge_at(xs: &[i32], i: usize) -> i32 {
-    if xs.len() <= i {
-        return 0;
+impl Line {
+    pub fn new() -> Line {
+        Line {
+            count: 0,
+            unsigned: [0; MOST_NUMBERS],
+            signed: [0; MOST_NUMBERS],
+            bytes: [0; MOST_NUMBERS],
+            shorts: [0; MOST_NUMBERS],
+        }
     }
-    xs[i]
-}
 
-// The number at a place as a count, at most 4,096.
-pub fn count_at(xs: &[u32], i: usize) -> usize
-    ensures { result ≤ 4096 }
-{
-    let n = at(xs, i) as usize;
-    if MOST_NUMBERS < n {
-        return MOST_NUMBERS;
+    // Puts the next number; none where the line has no room for it.
+    fn put(&mut self, x: u32) -> Option<()> {
+        let k = self.count;
+        if MOST_NUMBERS <= k {
+            return None;
+        }
+        self.unsigned[k] = x;
+        self.signed[k] = sheet_words::edge(x);
+        self.bytes[k] = u8::try_from(x).unwrap_or(u8::MAX);
+        self.shorts[k] = u16::try_from(x).unwrap_or(u16::MAX);
+        self.count = k + 1;
+        Some(())
     }
-    n
+
+    // Reads the numbers of the first line of a text; a number ends at a space or at the line's end. Answers the text after the line, and
+    // none where the line holds anything but numbers, more of them than it has room for, or no end.
+    pub fn read<'a>(&mut self, text: &'a [u8]) -> Option<&'a [u8]>
+        ensures { IfSome result (λ rest. length rest.now < length text.now) }
+    {
+        self.count = 0;
+        let mut word = Word::BLANK;
+        for (i, &c) in text.iter().enumerate() {
+            if b' ' < c {
+                word = word.grown(c)?;
+                continue;
+            }
+            self.put(word.number())?;
+            if c == b'\n' {
+                return Some(&text[i + 1..]);
+            }
+            word = Word::BLANK;
+        }
+        None
+    }
+
+    pub fn count(&self) -> usize
+        ensures { result ≤ 4096 }
+    {
+        self.count
+    }
+
+    pub fn unsigned(&self) -> &[u32] {
+        &self.unsigned[..self.count]
+    }
+
+    pub fn signed(&self) -> &[i32] {
+        &self.signed[..self.count]
+    }
+
+    pub fn bytes(&self) -> &[u8] {
+        &self.bytes[..self.count]
+    }
+
+    pub fn shorts(&self) -> &[u16] {
+        &self.shorts[..self.count]
+    }
+
+    // The number at a place, 0 where there is none.
+    pub fn at(&self, i: usize) -> u32 {
+        self.unsigned().get(i).copied().unwrap_or(0)
+    }
+
+    pub fn edge_at(&self, i: usize) -> i32 {
+        self.signed().get(i).copied().unwrap_or(0)
+    }
+
+    // The number at a place as a count, at most 4,096.
+    pub fn count_at(&self, i: usize) -> usize
+        ensures { result ≤ 4096 }
+    {
+        MOST_NUMBERS.min(self.at(i) as usize)
+    }
 }
