@@ -2,8 +2,10 @@
 // call it prints the answer, the counts row by row, and the verdict on the ground with no building on it.
 #![tactic(auto)]
 
-use base_model::{Answer, Bounds, Judged, Position, Query, Rect};
-use program_words::{answers, say};
+use base_model::{Bounds, Position, Query, Rect, Refusal};
+use call_lengths::Work;
+use program_words::answers;
+use set_places::{FlatPlaces, Given};
 use std::io;
 use std::io::Write;
 
@@ -66,25 +68,18 @@ const BESIDE: Rect = Rect {
 
 type Baseline = [u8; CENTRES];
 
-fn wide(x: u8) -> u32 {
-    x as u32
-}
-
 // Prints one row of counts.
 fn show_row<W: Write>(out: &mut W, row: &[u8]) -> io::Result<()> {
     for count in row {
-        say::number(out, wide(*count))?;
+        write!(out, " {count}")?;
     }
-    say::end(out)
+    writeln!(out)
 }
 
 // Prints the counts row by row.
 fn show_counts<W: Write>(out: &mut W, baseline: &Baseline) -> io::Result<()> {
-    let counts = &baseline[..];
-    for row in 0..HEIGHT {
-        let from = row * WIDTH;
-        let to = from + WIDTH;
-        show_row(out, &counts[from..to])?;
+    for row in baseline.chunks_exact(WIDTH) {
+        show_row(out, row)?;
     }
     Ok(())
 }
@@ -104,47 +99,44 @@ fn judge_ground<W: Write>(out: &mut W, steps: &[i32], baseline: &Baseline) -> io
     let mut queue = [0u32; CENTRES];
     let mut predecessors = [0u32; CENTRES];
     let mut route = [0u32; CENTRES];
-    let judged = call_judge::judge(
+    let places = FlatPlaces {
+        groups: &[],
+        numbers: &[],
+        edges: &[],
+    };
+    let given = Given {
         query,
-        &[],
-        &[],
-        &[],
-        baseline,
-        &[],
-        steps,
-        &[],
-        &mut counts,
-        &mut map,
-        &mut queue,
-        &mut predecessors,
-        &mut route,
-    );
-    match judged {
-        Judged::Verdict(v, ground) => {
-            say::word(out, b"verdict")?;
-            say::number(out, base_model::verdict_number(v))?;
-            say::word(out, b" ground")?;
-            say::number(out, ground)?;
+        places,
+        block_base: baseline,
+        allow_base: &[],
+    };
+    let mut work = Work {
+        counts: &mut counts,
+        map: &mut map,
+        queue: &mut queue,
+        predecessors: &mut predecessors,
+        route: &mut route,
+    };
+    match call_judge::judge(&given, steps, &[], &mut work) {
+        Ok(judged) => {
+            let verdict = u32::from(judged.verdict);
+            writeln!(out, "verdict {verdict} ground {}", judged.ground)
         }
-        Judged::Refused(r) => {
-            say::word(out, b"refused")?;
-            answers::say_refusal(out, r)?;
-        }
+        Err(r) => writeln!(out, "refused {r}"),
     }
-    say::end(out)
 }
 
 // Prints what was done and its answer, then the counts and the verdict.
 fn say_done<W: Write>(
     out: &mut W,
-    what: &[u8],
-    answer: Answer,
+    what: &str,
+    answer: Result<(), Refusal>,
     steps: &[i32],
     baseline: &Baseline,
 ) -> io::Result<()> {
-    say::word(out, what)?;
-    answers::say_answer(out, answer)?;
-    say::end(out)?;
+    write!(out, "{what}")?;
+    answers::say_answer(out, &answer)?;
+    writeln!(out)?;
     show_counts(out, baseline)?;
     judge_ground(out, steps, baseline)
 }
@@ -173,13 +165,13 @@ fn prepare_mover<W: Write>(out: &mut W, steps: &[i32], baseline: &mut Baseline) 
         &mut predecessors,
         &mut route,
     );
-    say_done(out, b"prepare", answer, steps, baseline)
+    say_done(out, "prepare", answer, steps, baseline)
 }
 
 // Puts a rock down.
 fn cover_rock<W: Write>(
     out: &mut W,
-    what: &[u8],
+    what: &str,
     rock: Rect,
     steps: &[i32],
     baseline: &mut Baseline,
@@ -191,7 +183,7 @@ fn cover_rock<W: Write>(
 // Takes a rock up.
 fn lift_rock<W: Write>(
     out: &mut W,
-    what: &[u8],
+    what: &str,
     rock: Rect,
     steps: &[i32],
     baseline: &mut Baseline,
@@ -209,11 +201,11 @@ fn main(rt: HostRuntime) -> io::Result<()> {
     let mut out = io::writer(&rt);
     let mut baseline = [0u8; CENTRES];
     prepare_mover(&mut out, steps, &mut baseline)?;
-    cover_rock(&mut out, b"cover upper", UPPER, steps, &mut baseline)?;
-    cover_rock(&mut out, b"cover upper again", UPPER, steps, &mut baseline)?;
-    lift_rock(&mut out, b"lift upper", UPPER, steps, &mut baseline)?;
-    cover_rock(&mut out, b"cover lower", LOWER, steps, &mut baseline)?;
-    lift_rock(&mut out, b"lift beside", BESIDE, steps, &mut baseline)?;
-    lift_rock(&mut out, b"lift lower", LOWER, steps, &mut baseline)?;
-    lift_rock(&mut out, b"lift upper", UPPER, steps, &mut baseline)
+    cover_rock(&mut out, "cover upper", UPPER, steps, &mut baseline)?;
+    cover_rock(&mut out, "cover upper again", UPPER, steps, &mut baseline)?;
+    lift_rock(&mut out, "lift upper", UPPER, steps, &mut baseline)?;
+    cover_rock(&mut out, "cover lower", LOWER, steps, &mut baseline)?;
+    lift_rock(&mut out, "lift beside", BESIDE, steps, &mut baseline)?;
+    lift_rock(&mut out, "lift lower", LOWER, steps, &mut baseline)?;
+    lift_rock(&mut out, "lift upper", UPPER, steps, &mut baseline)
 }

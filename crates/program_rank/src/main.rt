@@ -2,10 +2,9 @@
 // and one beyond the radius. Prints each rank, then the posts from the nearest on.
 #![tactic(auto)]
 
-use base_model::{Position, Rank, Ranked, Rect, Site};
-use program_words::{answers, say};
-use std::io;
+use base_model::{Position, Rank, Rect, Site};
 use std::io::Write;
+use std::{fmt, io};
 
 // The map has 32 by 32 pixels.
 const ACROSS: u32 = 4;
@@ -19,34 +18,6 @@ const SITE: Site = Site {
     radius: 6,
 };
 
-const BESIDE: Rect = Rect {
-    left: 8,
-    top: 9,
-    right: 13,
-    bottom: 12,
-};
-
-const BETWEEN: Rect = Rect {
-    left: 15,
-    top: 12,
-    right: 20,
-    bottom: 15,
-};
-
-const BEYOND: Rect = Rect {
-    left: 26,
-    top: 4,
-    right: 31,
-    bottom: 7,
-};
-
-// Three numbers that are no rank: walls::closer takes them as farther than every rank.
-const NO_RANK: Rank = Rank {
-    quotient: 0,
-    remainder: 0,
-    divisor: 0,
-};
-
 #[derive(Clone, Copy)]
 enum Place {
     Beside,
@@ -54,98 +25,102 @@ enum Place {
     Beyond,
 }
 
+impl Place {
+    // The post that stands there.
+    fn footprint(self) -> Rect {
+        match self {
+            Place::Beside => Rect {
+                left: 8,
+                top: 9,
+                right: 13,
+                bottom: 12,
+            },
+            Place::Between => Rect {
+                left: 15,
+                top: 12,
+                right: 20,
+                bottom: 15,
+            },
+            Place::Beyond => Rect {
+                left: 26,
+                top: 4,
+                right: 31,
+                bottom: 7,
+            },
+        }
+    }
+}
+
+impl fmt::Display for Place {
+    fn fmt<W: fmt::Write>(&self, f: &mut fmt::Formatter<W>) -> fmt::Result {
+        match self {
+            Place::Beside => f.write_str("beside"),
+            Place::Between => f.write_str("between"),
+            Place::Beyond => f.write_str("beyond"),
+        }
+    }
+}
+
+// A post and its rank; none where it is beyond the radius, or was refused.
 #[derive(Clone, Copy)]
 struct Post {
     place: Place,
-    rank: Rank,
+    rank: Option<Rank>,
 }
 
-#[derive(Clone, Copy)]
-struct Pair {
-    near: Post,
-    far: Post,
-}
-
-fn say_place<W: Write>(out: &mut W, place: Place) -> io::Result<()> {
-    match place {
-        Place::Beside => say::word(out, b"beside"),
-        Place::Between => say::word(out, b"between"),
-        Place::Beyond => say::word(out, b"beyond"),
+impl Post {
+    // Whether this post is nearer than another. One without a rank is farther than each that has one.
+    fn nearer(&self, other: &Post) -> bool {
+        match (self.rank, other.rank) {
+            (Some(rank), Some(far)) => walls::closer(rank, far),
+            (Some(_), None) => true,
+            _ => false,
+        }
     }
 }
 
-fn say_part<W: Write>(out: &mut W, x: u64) -> io::Result<()> {
-    write!(out, " {x}")
-}
-
-// Prints quotient, remainder and divisor, or that there is no rank.
-fn say_ranked<W: Write>(out: &mut W, ranked: Ranked) -> io::Result<Rank> {
+// Ranks the post at a place; prints quotient, remainder and divisor, or that there is no rank.
+fn rank_post<W: Write>(out: &mut W, place: Place) -> io::Result<Post> {
+    write!(out, "{place}")?;
+    let ranked = walls::rank(ACROSS, DOWN, SITE, place.footprint());
     match ranked {
-        Ranked::Rank(rank) => {
-            say_part(out, rank.quotient)?;
-            say_part(out, rank.remainder)?;
-            say_part(out, rank.divisor)?;
-            Ok(rank)
-        }
-        Ranked::Beyond => {
-            say::word(out, b" no rank")?;
-            Ok(NO_RANK)
-        }
-        Ranked::Refused(r) => {
-            say::word(out, b" refused")?;
-            answers::say_refusal(out, r)?;
-            Ok(NO_RANK)
-        }
+        Ok(Some(rank)) => writeln!(
+            out,
+            " {} {} {}",
+            rank.quotient, rank.remainder, rank.divisor
+        )?,
+        Ok(None) => writeln!(out, " no rank")?,
+        Err(r) => writeln!(out, " refused {r}")?,
     }
-}
-
-// Ranks a post and prints its rank.
-fn rank_post<W: Write>(out: &mut W, place: Place, footprint: Rect) -> io::Result<Post> {
-    say_place(out, place)?;
-    let rank = say_ranked(out, walls::rank(ACROSS, DOWN, SITE, footprint))?;
-    say::end(out)?;
     Ok(Post {
-        place: place,
-        rank: rank,
+        place,
+        rank: ranked.unwrap_or(None),
     })
 }
 
-// Two posts that are equally near stay in their order.
-fn nearer_first(a: Post, b: Post) -> Pair {
-    let rank = a.rank;
-    let other = b.rank;
-    if walls::closer(other, rank) {
-        return Pair { near: b, far: a };
-    }
-    Pair { near: a, far: b }
+// Sorts three posts from the nearest on; two that are equally near stay in their order.
+fn nearest_first(posts: [Post; 3]) -> [Post; 3] {
+    let [a, b, c] = posts;
+    let [a, b] = nearer_first(a, b);
+    let [b, c] = nearer_first(b, c);
+    let [a, b] = nearer_first(a, b);
+    [a, b, c]
 }
 
-fn say_post<W: Write>(out: &mut W, post: Post) -> io::Result<()> {
-    let place = post.place;
-    say::word(out, b" ")?;
-    say_place(out, place)
+fn nearer_first(a: Post, b: Post) -> [Post; 2] {
+    if b.nearer(&a) { [b, a] } else { [a, b] }
 }
 
 // The two posts that have a rank are at the same whole distance, 4, and the remainder 164 is more than 2: the divisors tell that the one
 // between the ends is nearer, by 164/400 to 2/4.
 fn main(rt: HostRuntime) -> io::Result<()> {
-    let mut writer = io::writer(&rt);
-    let out = &mut writer;
-    let beyond = rank_post(out, Place::Beyond, BEYOND)?;
-    let beside = rank_post(out, Place::Beside, BESIDE)?;
-    let between = rank_post(out, Place::Between, BETWEEN)?;
-    let two = nearer_first(beyond, beside);
-    let near = two.near;
-    let far = two.far;
-    let last = nearer_first(far, between);
-    let middle = last.near;
-    let farthest = last.far;
-    let first = nearer_first(near, middle);
-    let nearest = first.near;
-    let second = first.far;
-    say::word(out, b"nearest first:")?;
-    say_post(out, nearest)?;
-    say_post(out, second)?;
-    say_post(out, farthest)?;
-    say::end(out)
+    let out = &mut io::writer(&rt);
+    let beyond = rank_post(out, Place::Beyond)?;
+    let beside = rank_post(out, Place::Beside)?;
+    let between = rank_post(out, Place::Between)?;
+    write!(out, "nearest first:")?;
+    for post in nearest_first([beyond, beside, between]) {
+        write!(out, " {}", post.place)?;
+    }
+    writeln!(out)
 }

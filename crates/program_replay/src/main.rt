@@ -8,7 +8,7 @@ use program_calls::{
 };
 use program_words::words::Line;
 use std::io;
-use std::io::Write;
+use std::io::{Read, Write};
 
 // The most bytes that are read.
 const MOST_BYTES: usize = 1048576;
@@ -35,6 +35,29 @@ fn answer_arrived<W: Write>(
     writeln!(out, "error")
 }
 
+// Reads standard input and answers it.
+fn answer_input<R: Read, W: Write>(
+    reader: &mut R,
+    out: &mut W,
+    text: &mut [u8; MOST_BYTES],
+    block: &mut [u8],
+    allow: &mut [u8],
+    work: &mut Work<'_>,
+    lists: &mut [u16; LISTS_LENGTH],
+    visited: &mut [u16; VISITED_LENGTH],
+    layouts: &mut [u16; LAYOUTS_LENGTH],
+    points: &mut [u32; POINTS_LENGTH],
+) -> io::Result<()> {
+    let input = input_read::read_all(reader, text);
+    let mut store = Store {
+        lists,
+        visited,
+        layouts,
+        points,
+    };
+    answer_arrived(out, input, text, block, allow, work, &mut store)
+}
+
 fn main(rt: HostRuntime) -> io::Result<()> {
     let mut text = [0u8; MOST_BYTES];
     let mut block = [0u8; MOST_CENTRES];
@@ -55,15 +78,16 @@ fn main(rt: HostRuntime) -> io::Result<()> {
         predecessors: &mut predecessors,
         route: &mut route,
     };
-    let mut store = Store {
-        lists: &mut lists,
-        visited: &mut visited,
-        layouts: &mut layouts,
-        points: &mut points,
-    };
-    let input = input_read::read_all(&mut rt.stdin(), &mut text);
-    let out = &mut io::writer(&rt);
-    answer_arrived(
-        out, input, &text, &mut block, &mut allow, &mut work, &mut store,
+    answer_input(
+        &mut rt.stdin(),
+        &mut io::writer(&rt),
+        &mut text,
+        &mut block,
+        &mut allow,
+        &mut work,
+        &mut lists,
+        &mut visited,
+        &mut layouts,
+        &mut points,
     )
 }

@@ -1,22 +1,4 @@
-// What is printed, and digests of what is too long to print.
-use std::io;
-use std::io::Write;
-
-// Prints a word as it stands.
-pub fn word<W: Write>(out: &mut W, s: &[u8]) -> io::Result<()> {
-    out.write_all(s)
-}
-
-// Prints a number after a space.
-pub fn number<W: Write>(out: &mut W, x: u32) -> io::Result<()> {
-    write!(out, " {x}")
-}
-
-// Ends a line.
-pub fn end<W: Write>(out: &mut W) -> io::Result<()> {
-    writeln!(out)
-}
-
+// Digests of what is too long to print.
 // A digest after one more number: the digest times 1,000,003, plus the number, plus 1, modulo 4,294,967,291.
 fn mixed(h: u32, v: u32) -> u32 {
     ((h as u64 * 1000003 + v as u64 + 1) % 4294967291) as u32
