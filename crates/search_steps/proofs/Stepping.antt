@@ -21,13 +21,6 @@ pub record Stepping (t : Terms) (i : ℕ) (r₁ : Record) (a₁ : Store) (r : Re
   pub held : HoldsSome t r a
   pub on : (s : State) (a₀ : Store) → Holds t a₀ s r₁ a₁ → Holds t a₀ (step (plan_in t) i s) r a
 
--- the areas keep their lengths
-pub record Alike (a b : Store) : Type 0 where
-  pub lists : length b.lists ≡ length a.lists
-  pub visited : length b.visited ≡ length a.visited
-  pub layouts : length b.layouts ≡ length a.layouts
-  pub points : length b.points ≡ length a.points
-
 pub stepping_begin : (t : Terms) (r : Record) (a : Store) → HoldsSome t r a → Stepping t 0 r a r a
 stepping_begin t r a x = record { held = x; on = λ s a₀ h. subst (λ (u : State). Holds t a₀ u r a) (sym (step_zero (plan_in t) s)) h }
 

@@ -1,13 +1,12 @@
 -- `visit`: what its calls ask, and what it leaves by the answer of the evaluation.
 use Prim.Native.Nat.{ℕ, ◌+◌, ◌-◌, ◌*◌, ◌≤◌, ◌<◌}
-use mathlib.Core.Path.{◌≡◌, sym, ◌∙◌, ap, ap₂, subst}
+use mathlib.Core.Path.{◌≡◌, refl, sym, ◌∙◌, ap, ap₂, subst}
 use mathlib.Core.Bool.{Bool, true}
 use mathlib.Core.List.{List, [], ◌∷◌, ◌++◌, map, reverse, reverse-reverse, Memᴰ}
 use native.Mathlib.Omega.{arith}
 use native.Mathlib.Nat.{mul-le-mul_right}
 use lib.Dec.{leb, eqb}
 use lib.ListN.{length, take, drop, get_or, replicate, length-take, length-drop}
-use lib.Seq.{get_or-take}
 use borrow.Author.Tests.{leb-true, leb-false, eqb-true, eqb-false}
 use Rattle.base_laws.specs.Lists.{flat}
 use Rattle.base_laws.specs.Fill.{zeros, over}
@@ -84,15 +83,15 @@ module _ (t : Terms) (given : Given t) (a₀ : Store) (s : State) (r : Record) (
   abbrev rest : List ℕ
   rest = behind (board_in t) (plan_in t) t.limits (count_in t) (fitting t given) a₀.lists a₀.visited s r a.lists a.visited part
 
-  pub stood : (n count : ℕ) → n ≡ r.placements → count ≡ r.lists → Stood a.lists n count r.nexts (reverse s.lists) rest
-  stood n count en ec =
-      subst (λ (k : ℕ). Stood a.lists k count r.nexts (reverse s.lists) rest) (sym (en ∙ sums.placements_are))
-      (part_stood (board_in t) (plan_in t) t.limits (count_in t) (fitting t given) a₀.lists a₀.visited s r a.lists a.visited part (sums.pending_is ∙ ripe.pending) count ec)
+  pub stood : Stood a.lists r.placements (take r.lists r.nexts) (reverse s.lists) rest
+  stood =
+      subst (λ (k : ℕ). Stood a.lists k (take r.lists r.nexts) (reverse s.lists) rest) (sym sums.placements_are)
+      (part_stood (board_in t) (plan_in t) t.limits (count_in t) (fitting t given) a₀.lists a₀.visited s r a.lists a.visited part (sums.pending_is ∙ ripe.pending))
 
-  pub row_is : (n count : ℕ) → n ≡ r.placements → count ≡ r.lists → (set : List ℕ)
-      → ((ms : List Extensions) (rest : List ℕ) → Stood a.lists n count r.nexts ms rest → set ≡ row (set_on (reverse ms))) → set ≡ row (set_on s.lists)
-  row_is n count en ec set f =
-      f (reverse s.lists) rest (stood n count en ec) ∙ ap (λ (ls : List Extensions). row (set_on ls)) (reverse-reverse s.lists)
+  pub row_is : (set : List ℕ)
+      → ((ms : List Extensions) (rest : List ℕ) → Stood a.lists r.placements (take r.lists r.nexts) ms rest → set ≡ row (set_on (reverse ms)))
+      → set ≡ row (set_on s.lists)
+  row_is set f = f (reverse s.lists) rest stood ∙ ap (λ (ls : List Extensions). row (set_on ls)) (reverse-reverse s.lists)
 
   pub ready : (m : List ℕ) (k : ℕ) → m ≡ set_on s.lists → k ≡ count_in t → Ready t.query t.groups t.numbers t.edges t.block_base t.allow_base t.steps m k
   unfolding board_of places_of
@@ -222,10 +221,6 @@ module _ (t : Terms) (given : Given t) (a₀ : Store) (s : State) (r : Record) (
             by_ripe (plan_in t) (λ s. Holds t a₀ s r a → kept_in more ≡ points_kept s.layouts)
             (λ ls v ys fresh h. kept_is (count_in t) ls (v ++ set_on ls ∷ []) ys more (me ∙ entered t given a₀ ls v ys r a h fresh)) s ripe h
 
-        -- the route has an entry of the route for each point
-        pub wall_long : m ≤ length route'
-        wall_long = omega (arith, wall_number m e, length-take m route')
-
         space : points_kept s.layouts + m ≤ 1000000 → 2 * points_kept s.layouts + 2 * m ≤ points_length (inputs_under t) t.limits
         space k =
             let num = wall_number m e in
@@ -234,13 +229,12 @@ module _ (t : Terms) (given : Given t) (a₀ : Store) (s : State) (r : Record) (
             → 2 * points_kept s.layouts + 2 * m ≤ points_length (inputs_under t) t.limits)
             (λ ls v ys fresh h oe k. omega (arith, wall_room t given a₀ ls v ys r a h fresh (take m route') oe (omega arith))) s ripe h (walls m e) k
 
-        named : (i : ℕ) → i < m → get_or route' i 0 < centres t.query.window
+        named : (i : ℕ) → i < length (take m route') → get_or (take m route') i 0 < centres t.query.window
         unfolding board_of inputs_of
         named i k =
-            wall_inside (board_in t) given.sound.laid_out (set_on s.lists) (take m route') (walls m e) (get_or route' i 0)
-            (subst (λ (c : ℕ). Memᴰ c (take m route')) (get_or-take m route' i 0 k) (get_d_member (take m route') i 0 (omega (arith, wall_number m e))))
+            wall_inside (board_in t) given.sound.laid_out (set_on s.lists) (take m route') (walls m e) (get_or (take m route') i 0) (get_d_member (take m route') i 0 k)
 
-        pub listable : length route' ≡ centres t.query.window → Listable more t.query.window a.layouts a.points route' m
+        pub listable : length route' ≡ centres t.query.window → Listable more t.query.window a.layouts a.points (take m route')
         unfolding plan_of
         listable lp =
             let z : more.layouts ≡ length s.layouts = ap (λ (q : Record). q.layouts) me ∙ sums.layouts_are in
@@ -257,8 +251,7 @@ module _ (t : Terms) (given : Given t) (a₀ : Store) (s : State) (r : Record) (
               );
               fits = given.fits;
               kept = omega (arith, h.good.limits.points);
-              short = omega (arith, wall_long, (framed 8192 8192 t.query.window given.fits).few);
-              long = wall_long;
+              short = omega (arith, length-take m route', (framed 8192 8192 t.query.window given.fits).few);
               named = named;
               space = λ k.
                   omega (
@@ -266,43 +259,44 @@ module _ (t : Terms) (given : Given t) (a₀ : Store) (s : State) (r : Record) (
                     ap (λ (q : List ℕ). length q) (points_are_lem t a₀ s r a h),
                     length_laid (points_length (inputs_under t) t.limits) (flat (map (λ (y : Layout). numbers y.route) s.layouts))
                         a₀.points (omega (arith, length_kept s.layouts, points_fit t s h.good)),
-                    space (omega arith),
+                    space (omega (arith, wall_number m e)), wall_number m e,
                   );
             }
 
-        pub arm_wall : (q : Record) (ya pa route'' : List ℕ) → Listing t.limits more t.query.window set m route' q a.layouts a.points ya pa route''
+        pub arm_wall : (q : Record) (ya pa route'' : List ℕ) → Listing t.limits more t.query.window set (take m route') q a.layouts a.points ya pa route''
             → Holds t a₀ (advance (plan_in t) s) q (store_in lists' va ya pa)
         arm_wall q ya pa route'' l =
-            let num = wall_number m e in
+            let w : List ℕ = take m route' in
+            let k' = length w in
             by_ripe (plan_in t)
             (λ s. Holds t a₀ s r a → explore (board_in t) (set_on s.lists) ≡ Wall (take m route') → set ≡ row (set_on s.lists) → kept_in more ≡ points_kept s.layouts
             → Holds t a₀ (advance (plan_in t) s) q (store_in lists' va ya pa))
             (λ ls v ys fresh h oe se ke.
             let le = part_same a.lists at k list (wall_list m e) ∙ lists_are_lem t given a₀ ls v ys r a h fresh in
             let we = visited_put t given a₀ ls v ys r a h fresh va set ve se in
-            either (leb (kept_in more + m) 1000000)
+            either (leb (kept_in more + k') 1000000)
             (λ i.
-            let d = l.listed (leb-true (kept_in more + m) 1000000 i) in
+            let d = l.listed (leb-true (kept_in more + k') 1000000 i) in
             let z : more.layouts ≡ r.layouts = ap (λ (q : Record). q.layouts) me in
-            v_wall t given a₀ ls v ys r a h fresh (take m route') oe (let b = leb-true (kept_in more + m) 1000000 i in omega arith) q lists' va ya pa set m num
-            (subst (λ (u : Record). LookedAt t.limits (listed_rec u m) q) me d.0) le we se
+            v_wall t given a₀ ls v ys r a h fresh (take m route') oe (let b = leb-true (kept_in more + k') 1000000 i in omega arith) q lists' va ya pa set k' refl
+            (subst (λ (u : Record). LookedAt t.limits (listed_rec u k') q) me d.0) le we se
             (d.1 ∙ ap (λ (j : ℕ). over a.layouts (j * 7) set) z) (kept_in more) ke d.2)
             (λ f.
-            let d = l.full (leb-false (kept_in more + m) 1000000 f) in
-            let full = v_full t given a₀ ls v ys r a h fresh (take m route') oe lists' va (let b = leb-false (kept_in more + m) 1000000 f in omega arith) le we in
+            let d = l.full (leb-false (kept_in more + k') 1000000 f) in
+            let full = v_full t given a₀ ls v ys r a h fresh (take m route') oe lists' va (let b = leb-false (kept_in more + k') 1000000 f in omega arith) le we in
             subst (λ (u : Record). Holds t a₀ (advance (plan_in t) (held Running true ls v ys)) u (store_in lists' va ya pa)) (sym (d.0 ∙ ap (λ (u : Record). stop_rec u 4) me))
             (subst (λ (u : List ℕ). Holds t a₀ (advance (plan_in t) (held Running true ls v ys)) (stop_rec (entered_rec r) 4) (store_in lists' va u pa)) (sym d.1)
             (subst (λ (u : List ℕ). Holds t a₀ (advance (plan_in t) (held Running true ls v ys)) (stop_rec (entered_rec r) 4) (store_in lists' va a.layouts u)) (sym d.2) full))))
             s ripe h (walls m e) se kept
 
-pub stood_some : (t : Terms) (given : Given t) (a₀ : Store) (s : State) (r : Record) (a : Store) (h : Holds t a₀ s r a) (ripe : Ripe (plan_in t) s) (n count : ℕ) → n ≡ r.placements → count ≡ r.lists
-    → SomeStood a.lists n count r.nexts
+pub stood_some : (t : Terms) (given : Given t) (a₀ : Store) (s : State) (r : Record) (a : Store) (h : Holds t a₀ s r a) (ripe : Ripe (plan_in t) s)
+    → SomeStood a.lists r.placements (take r.lists r.nexts)
 unfolding board_of places_of
-stood_some t given a₀ s r a h ripe n count en ec = record {
+stood_some t given a₀ s r a h ripe = record {
   small = omega (arith, given.sound.few, (sums t given a₀ s r a h ripe).placements_are);
   ms = reverse s.lists;
   rest = rest t given a₀ s r a h ripe;
-  stood = stood t given a₀ s r a h ripe n count en ec;
+  stood = stood t given a₀ s r a h ripe;
 }
 
 module _ (t : Terms) (given : Given t) (a₀ : Store) (s : State) (r : Record) (a : Store) (h : Holds t a₀ s r a) (ripe : Ripe (plan_in t) s) (set : List ℕ) (se : set ≡ row (set_on s.lists)) where
@@ -335,3 +329,75 @@ place_is t given a₀ s r a h ripe at n count ec en f k = f (omega arith) ∙ ap
 
 pub route_inside : (c m : ℕ) (route : List ℕ) → m ≡ length (take m route) → length route ≡ c → m ≤ c
 route_inside c m route e l = omega (arith, length-take m route)
+
+-- ---- a visit: the row of the pending set, and what the evaluation of its members gives
+module _ (t : Terms) (given : Given t) (a₀ : Store) (s : State) (r : Record) (a : Store) (h : Holds t a₀ s r a) (ripe : Ripe (plan_in t) s) (set : List ℕ)
+    (f : (ms : List Extensions) (rest : List ℕ) → Stood a.lists r.placements (take r.lists r.nexts) ms rest → set ≡ row (set_on (reverse ms)))
+  where
+  pub visit_row : set ≡ row (set_on s.lists)
+  visit_row = row_is t given a₀ s r a h ripe set f
+
+  pub visit_size : (get_or set 0 0 ≤ 6) × (length set ≡ 7)
+  visit_size = set_size t given a₀ s r a h ripe set visit_row
+
+  pub visit_ready : (at : ℕ) → at + r.placements ≤ 6 * r.placements
+      → Ready t.query t.groups t.numbers t.edges t.block_base t.allow_base t.steps (take (get_or set 0 0 + 1 - 1) (drop 1 set)) (length (take (at + r.placements - at) (drop at a.lists)))
+  visit_ready at room =
+      ready t given a₀ s r a h ripe _ _ (members_are t given a₀ s r a h ripe set visit_row (get_or set 0 0) refl)
+      (place_long a.lists at r.placements _ (sums t given a₀ s r a h ripe).placements_are room (lists_long_lem t given a₀ s r a h ripe))
+
+  module _ (x : answer.Explored) (at : ℕ) (list route route' : List ℕ)
+      (v : Evaluated (explore (board_in t) (take (get_or set 0 0 + 1 - 1) (drop 1 set))) x (take (at + r.placements - at) (drop at a.lists)) list route route')
+    where
+    abbrev k : ℕ
+    k = at + r.placements - at
+
+    ev : Evaluated (explore (board_in t) (set_on s.lists)) x (take k (drop at a.lists)) list route route'
+    ev = evaluated_as t given a₀ s r a h ripe set visit_row (get_or set 0 0) refl x (take k (drop at a.lists)) list route route' v
+
+    module _ (m : ℕ) (e : x ≡ answer.TheVariants.Extend m) where
+      pub visit_pushes : (more : Record) → more ≡ entered_rec r → ((m ≡ 0 → ⊥) → more.lists < 6) × (m ≤ 6144)
+      visit_pushes more me = push_room t given a₀ s r a h ripe x at k list route route' ev m e more me
+
+      pub visit_extend_route : route' ≡ route
+      visit_extend_route = extend_route t given a₀ s r a h ripe x at k list route route' ev m e
+
+    module _ (m : ℕ) (e : x ≡ answer.TheVariants.Wall m) where
+      pub visit_wall_number : m ≡ length (take m route')
+      visit_wall_number = wall_number t given a₀ s r a h ripe x at k list route route' ev m e
+
+      pub visit_wall_long : m ≤ length route'
+      visit_wall_long = omega (arith, visit_wall_number, length-take m route')
+
+      pub visit_lists : (more : Record) → more ≡ entered_rec r → length route' ≡ centres t.query.window
+          → Listable more t.query.window a.layouts a.points (take m route')
+      visit_lists more me lp = listable t given a₀ s r a h ripe x at k list route route' ev set visit_row more me (over a.visited (r.evaluations * 7) set) refl m e lp
+
+      pub visit_wiped : (c : ℕ) (wiped : List ℕ) → route ≡ replicate c 0 → length route' ≡ c → wiped ≡ zeros (length (take m route')) → wiped ++ drop m route' ≡ replicate c 0
+      visit_wiped c wiped clear long w =
+          route_wiped c m (take m route') route route' (wiped ++ drop m route') clear
+          (wall_route t given a₀ s r a h ripe x at k list route route' ev m e) visit_wall_number
+          (route_inside c m route' visit_wall_number long)
+          (ap (λ (q : List ℕ). q ++ drop m route') (w ∙ ap zeros (sym visit_wall_number)))
+
+    pub visit_nothing_route : x ≡ answer.TheVariants.Nothing → route' ≡ route
+    visit_nothing_route e = nothing_route t given a₀ s r a h ripe x at k list route route' ev e
+
+    -- ---- the arms
+    module _ (more : Record) (me : more ≡ entered_rec r) (va : List ℕ) (ve : va ≡ over a.visited (r.evaluations * 7) set) where
+      pub visit_nothing : x ≡ answer.TheVariants.Nothing → (q : Record) → LookedAt t.limits more q
+          → Holds t a₀ (advance (plan_in t) s) q (store_in (take at a.lists ++ (list ++ drop k (drop at a.lists))) va a.layouts a.points)
+      visit_nothing = arm_nothing t given a₀ s r a h ripe x at k list route route' ev set visit_row more me va ve
+
+      pub visit_extend : (m : ℕ) → x ≡ answer.TheVariants.Extend m → (r.lists < 6 → at ≡ r.lists * r.placements) → (u q : Record)
+          → (m ≡ 0 → u ≡ more) × ((m ≡ 0 → ⊥) → u ≡ pushed_rec more m) → LookedAt t.limits u q
+          → Holds t a₀ (advance (plan_in t) s) q (store_in (take at a.lists ++ (list ++ drop k (drop at a.lists))) va a.layouts a.points)
+      visit_extend m e ea =
+          let n = (sums t given a₀ s r a h ripe).placements_are in
+          arm_extend t given a₀ s r a h ripe x at k list route route' ev set visit_row more me va ve m e
+          (place_at at r.placements _ n) (λ d. ea d ∙ ap (λ (j : ℕ). r.lists * j) n)
+
+      pub visit_wall : (m : ℕ) → x ≡ answer.TheVariants.Wall m → (q : Record) (ya pa route'' : List ℕ)
+          → Listing t.limits more t.query.window set (take m route') q a.layouts a.points ya pa route''
+          → Holds t a₀ (advance (plan_in t) s) q (store_in (take at a.lists ++ (list ++ drop k (drop at a.lists))) va ya pa)
+      visit_wall = arm_wall t given a₀ s r a h ripe x at k list route route' ev set visit_row more me va ve

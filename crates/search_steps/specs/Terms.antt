@@ -16,6 +16,7 @@ use Rattle.rule_calls.specs.Areas.{Store, record_of, store_of}
 use Rattle.rule_calls.specs.Calls.{plan_of}
 use Rattle.search_turn.specs.Portion.{Sound, Ripe}
 use Rattle.set_board.specs.Ready.{Ready}
+use Rattle.set_places.specs.declared.Given as lent
 use Rattle.rule_search.specs.Formed.{Good}
 
 -- what stays the same in a call
@@ -32,6 +33,11 @@ pub record Terms : Type 0 where
 abbrev pub terms : Query → (groups numbers : List ℕ) → List ℤ → (block_base allow_base : List ℕ) → List ℤ → Limits → Terms
 terms q groups numbers edges block_base allow_base steps limits =
     record { query = q; groups = groups; numbers = numbers; edges = edges; block_base = block_base; allow_base = allow_base; steps = steps; limits = limits }
+
+-- the terms of a call that is given these
+abbrev pub terms_of : lent.Given → List ℤ → Limits → Terms
+terms_of g steps limits =
+    terms g.query g.places.groups.now g.places.numbers.now g.places.edges.now g.block_base.now g.allow_base.now steps limits
 
 abbrev pub inputs_under : Terms → Inputs
 inputs_under t = inputs_of t.query t.groups t.numbers t.edges t.block_base t.allow_base
