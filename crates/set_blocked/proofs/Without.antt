@@ -1,5 +1,5 @@
 -- A set without its member number k: by members taken in turn, and as the set from which that member is lifted.
-use Prim.Native.Nat.{ℕ, zero, suc, ◌≤◌, ◌<◌}
+use Prim.Native.Nat.{ℕ, zero, suc, ◌<◌}
 use mathlib.Core.Path.{◌≡◌, refl, sym, ap}
 use mathlib.Core.Bool.{true, false}
 use mathlib.Core.List.{List, [], ◌∷◌, ◌++◌, Memᴰ}
@@ -49,13 +49,6 @@ left_skip (Some k) j s e = let q = eqb-true k j e in rw q (without_at_skip j s)
 pub left_more : (o : std.Option ℕ) (j : ℕ) (s : List ℕ) → option_eq eqb o (Some j) ≡ false → j < length s → left_by o (take (suc j) s) ≡ left_by o (take j s) ++ (get_or s j 0 ∷ [])
 left_more None j s e h = take-suc s j 0 h
 left_more (Some k) j s e h = without_at_more k j s (λ q. eqb-false k j e (sym q)) h
-
--- with no such member the set stays whole
-pub without_at_past : (k : ℕ) (s : List ℕ) → length s ≤ k → without_at k s ≡ s
-unfolding without_at
-without_at_past k [] h = refl
-without_at_past zero (x ∷ s) h = absurd (not-suc-le-zero h)
-without_at_past (suc k) (x ∷ s) h = ap (λ (l : List ℕ). x ∷ l) (without_at_past k s (le_of_suc-le-suc h))
 
 -- nothing is lifted out of a list that lacks it
 without_none : (i : ℕ) (s : List ℕ) → ((j : ℕ) → Memᴰ j s → j ≡ i → ⊥) → without i s ≡ s

@@ -56,7 +56,13 @@ fn wall_of(ground: &Ground<'_>, given: &Given<'_>, set: &[u16], areas: &mut Area
 }
 
 // The evaluation of the set, which leaves its map behind.
-fn evaluate(ground: &Ground<'_>, given: &Given<'_>, set: &[u16], list: &mut [u16], areas: &mut Areas<'_>) -> Explored
+fn evaluate(
+    ground: &Ground<'_>,
+    given: &Given<'_>,
+    set: &[u16],
+    list: &mut [u16],
+    areas: &mut Areas<'_>,
+) -> Explored
     requires ready { ReadyOn ground.now given.now set.now (length list.old) }
     requires route_lent { Lent ground.now areas.old }
     ensures evaluated { Evaluated (layouts.explore (board_on ground.now given.now (length list.old)) set.now)
@@ -73,7 +79,14 @@ fn evaluate(ground: &Ground<'_>, given: &Given<'_>, set: &[u16], list: &mut [u16
         return wall_of(ground, given, set, areas);
     };
     let route = &mut *areas.route;
-    let found = set_extend::extensions(&ground.places, ground.window, block.bounds, set, &route[..n], list);
+    let found = set_extend::extensions(
+        &ground.places,
+        ground.window,
+        block.bounds,
+        set,
+        &route[..n],
+        list,
+    );
     base_areas::clear(route, n, 0);
     Explored::Extend(found)
 }
@@ -103,7 +116,6 @@ pub fn explore(
         steps,
     };
     let explored = evaluate(&ground, given, set, list, areas);
-    let n = areas.map.len();
-    base_areas::clear(areas.map, n, 0);
+    areas.map.fill(0);
     explored
 }

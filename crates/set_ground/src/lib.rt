@@ -45,7 +45,6 @@ pub fn ground_left(given: &Given<'_>, set: &[u16], areas: &mut Areas<'_>) -> u32
     };
     let queue = &mut *areas.queue;
     let left = route_reach::reach_count(&grid, &steps, start, queue, areas.predecessors);
-    let n = map.len();
-    base_areas::clear(map, n, 0);
+    map.fill(0);
     left
 }

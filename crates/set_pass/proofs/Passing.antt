@@ -75,10 +75,6 @@ pub wiped : {o : Option (List ℕ)} {r : std.Option ℕ} {route route' : List �
 wiped {o} {r} {route} {route'} t c n e k s = rw (counted_is o n (sym t.count ∙ k)) (wiped_by o c route route' e t.laid s)
 
 -- ---- the areas
--- kept, and kept again
-pub kept_on : {q p r q' p' r' q'' p'' r'' : List ℕ} → AreasKept q p r q' p' r' → AreasKept q' p' r' q'' p'' r'' → AreasKept q p r q'' p'' r''
-kept_on a b = record { queue_kept = b.queue_kept ∙ a.queue_kept; predecessors_kept = b.predecessors_kept ∙ a.predecessors_kept; route_kept = b.route_kept ∙ a.route_kept }
-
 -- the areas can be lent again
 pub lent_again : {w : Rect} {start end : ℕ} {map queue predecessors route map' queue' predecessors' route' : List ℕ} → RouteLent w start end map queue predecessors route → length map' ≡ length map
     → AreasKept queue predecessors route queue' predecessors' route' → RouteLent w start end map' queue' predecessors' route'

@@ -68,7 +68,15 @@ pub fn route_past(
     };
     let queue = &mut *areas.queue;
     let predecessors = &mut *areas.predecessors;
-    route_find::route(&grid, ground.steps, ground.start, ground.end, queue, predecessors, areas.route)
+    route_find::route(
+        &grid,
+        ground.steps,
+        ground.start,
+        ground.end,
+        queue,
+        predecessors,
+        areas.route,
+    )
 }
 
 // Whether the set, without its member number `lifted` where one is lifted, leaves the mover a route. The map is left laid.
@@ -94,7 +102,12 @@ pub fn lets_pass(
 
 // Whether lifting any one member leaves the mover open ends and a route. It stops at the first member that does not; the map is left as
 // laid without the member last lifted.
-pub fn is_minimal_block(ground: &Ground<'_>, mover: &Mover<'_>, set: &[u16], areas: &mut Areas<'_>) -> bool
+pub fn is_minimal_block(
+    ground: &Ground<'_>,
+    mover: &Mover<'_>,
+    set: &[u16],
+    areas: &mut Areas<'_>,
+) -> bool
     requires route_lent { Lent ground.now areas.old }
     requires moving { Meets ground.now mover.now set.now }
     requires set_value { ascends set.now ≡ true }

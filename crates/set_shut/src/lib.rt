@@ -15,7 +15,13 @@ use set_pass::{Areas, Ground};
 use set_places::Given;
 
 // Whether the allowed mover, if there is one, has a route past the set.
-fn lets_allowed(ground: &Ground<'_>, allow: Option<Bounds>, base: &[u8], set: &[u16], areas: &mut Areas<'_>) -> bool
+fn lets_allowed(
+    ground: &Ground<'_>,
+    allow: Option<Bounds>,
+    base: &[u8],
+    set: &[u16],
+    areas: &mut Areas<'_>,
+) -> bool
     requires route_lent { Lent ground.now areas.old }
     requires allow_ready { AllowReady ground.now.window allow base.now }
     requires named { Named ground.now.places.edges.now set.now }
@@ -31,7 +37,12 @@ fn lets_allowed(ground: &Ground<'_>, allow: Option<Bounds>, base: &[u8], set: &[
 }
 
 // The verdict on a set that leaves the blocked mover open ends and no route.
-pub fn shut_verdict(ground: &Ground<'_>, given: &Given<'_>, set: &[u16], areas: &mut Areas<'_>) -> Verdict
+pub fn shut_verdict(
+    ground: &Ground<'_>,
+    given: &Given<'_>,
+    set: &[u16],
+    areas: &mut Areas<'_>,
+) -> Verdict
     requires route_lent { Lent ground.now areas.old }
     requires shutting { Shutting ground.now given.now set.now }
     ensures value { result ≡ shut_on ground.now given.now set.now }

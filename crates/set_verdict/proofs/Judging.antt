@@ -4,7 +4,7 @@ use mathlib.Core.Path.{◌≡◌, sym, ap, ◌∙◌}
 use mathlib.Core.Bool.{Bool, true, false, not, ◌&&◌}
 use mathlib.Core.Option.{Option}
 use mathlib.Core.List.{List, [], ◌∷◌}
-use lib.ListN.{length, replicate}
+use lib.ListN.{length}
 use Rattle.base_laws.proofs.Stores.{all_length}
 use Rattle.base_laws.proofs.Firsts.{picked, passed_by, none_holds}
 use Rattle.base_laws.specs.Lists.{any_of, first_of, is_some}
@@ -27,7 +27,7 @@ use Rattle.set_blocked.specs.Blocked.{blocked_map, mover_in, allow_in}
 use Rattle.set_board.specs.Ready.{Blank}
 use Rattle.set_board.specs.Board.{flat_board}
 use Rattle.set_board.proofs.FlatBoard.{flat_board_lem}
-use Rattle.set_pass.specs.Pass.{RouteLent, AreasKept, passed, minimal}
+use Rattle.set_pass.specs.Pass.{RouteLent, passed, minimal}
 use Rattle.set_pass.proofs.Passing.{ends_are}
 use Rattle.set_pass.proofs.Allowing.{past_cases}
 use Rattle.set_shut.specs.Shut.{past_shut}
@@ -117,12 +117,3 @@ lent_blank q start end w s e b =
       predecessors_clear = b.predecessors_clear;
       route_clear = b.route_clear;
     }
-
-pub blank_again : {c : ℕ} {map queue predecessors route map' queue' predecessors' route' : List ℕ} → Blank c map queue predecessors route → map' ≡ replicate c 0
-    → AreasKept queue predecessors route queue' predecessors' route' → Blank c map' queue' predecessors' route'
-blank_again b e k = record {
-  map_clear = e;
-  queue_clear = k.queue_kept ∙ b.queue_clear;
-  predecessors_clear = k.predecessors_kept ∙ b.predecessors_clear;
-  route_clear = k.route_kept ∙ b.route_clear;
-}

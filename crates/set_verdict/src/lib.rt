@@ -18,7 +18,12 @@ use set_pass::{Areas, Ground};
 use set_places::Given;
 
 // The verdict on a set within the slots whose footprints do not overlap. The map is left laid.
-fn fit_verdict(ground: &Ground<'_>, given: &Given<'_>, set: &[u16], areas: &mut Areas<'_>) -> Verdict
+fn fit_verdict(
+    ground: &Ground<'_>,
+    given: &Given<'_>,
+    set: &[u16],
+    areas: &mut Areas<'_>,
+) -> Verdict
     requires route_lent { Lent ground.now areas.old }
     requires shutting { Shutting ground.now given.now set.now }
     ensures value { result ≡ fit_on ground.now given.now set.now }
@@ -61,7 +66,6 @@ pub fn verdict(given: &Given<'_>, steps: &[i32], set: &[u16], areas: &mut Areas<
         steps,
     };
     let verdict = fit_verdict(&ground, given, set, areas);
-    let n = areas.map.len();
-    base_areas::clear(areas.map, n, 0);
+    areas.map.fill(0);
     verdict
 }

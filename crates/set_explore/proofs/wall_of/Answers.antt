@@ -27,14 +27,14 @@ returns-then-not-ends_open-clause-by_index c =
     let a = c.args in
     let p = c.requires in
     λ n list. eval_closed a.ground.now a.given.now n a.set.now (ends a.ground.now a.given.now a.areas.now a.set.now c.ends_open.result p.route_lent p.map_value c.ends_open.ensures)
-        c.if-not-ends_open.true list a.areas.now.route.now
+    c.if-not-ends_open.true list a.areas.now.route.now
 
 pub returns-then-not-is_minimal_block-clause-by_index : goal.returns-then-not-is_minimal_block-clause-by_index
 returns-then-not-is_minimal_block-clause-by_index c =
     let a = c.args in
     let p = c.requires in
     λ n list. eval_spare a.ground.now a.given.now n a.set.now (ends a.ground.now a.given.now a.areas.now a.set.now c.ends_open.result p.route_lent p.map_value c.ends_open.ensures)
-        c.if-not-ends_open.false p.set_value (sym c.is_minimal_block.ensures.value ∙ c.if-not-is_minimal_block.true) list c.is_minimal_block.ensures.areas_kept.route_kept
+    c.if-not-ends_open.false p.set_value (sym c.is_minimal_block.ensures.value ∙ c.if-not-is_minimal_block.true) list c.is_minimal_block.ensures.areas_kept.route_kept
 
 pub returns-then-not-is_minimal_block-clause-map_bytes : goal.returns-then-not-is_minimal_block-clause-map_bytes
 returns-then-not-is_minimal_block-clause-map_bytes c =
@@ -54,8 +54,8 @@ returns-in-Some-clause-by_index c =
     let a = c.args in
     let p = c.requires in
     λ n list. eval_walled a.ground.now a.given.now n a.set.now (ends a.ground.now a.given.now a.areas.now a.set.now c.ends_open.result p.route_lent p.map_value c.ends_open.ensures)
-        c.if-not-ends_open.false p.set_value (sym c.is_minimal_block.ensures.value ∙ c.if-not-is_minimal_block.false) _ (ap wall_answer c.in-Some.is) list
-        c.is_minimal_block.ensures.areas_kept.route_kept c.allowed_route.ensures.allowed
+    c.if-not-ends_open.false p.set_value (sym c.is_minimal_block.ensures.value ∙ c.if-not-is_minimal_block.false) _ (ap wall_answer c.in-Some.is) list
+    c.is_minimal_block.ensures.areas_kept.route_kept c.allowed_route.ensures.allowed
 
 pub returns-in-None-clause-by_index : goal.returns-in-None-clause-by_index
 unfolding wall_answer
@@ -63,19 +63,19 @@ returns-in-None-clause-by_index c =
     let a = c.args in
     let p = c.requires in
     λ n list. eval_walled a.ground.now a.given.now n a.set.now (ends a.ground.now a.given.now a.areas.now a.set.now c.ends_open.result p.route_lent p.map_value c.ends_open.ensures)
-        c.if-not-ends_open.false p.set_value (sym c.is_minimal_block.ensures.value ∙ c.if-not-is_minimal_block.false) _ (ap wall_answer c.in-None.is) list
-        c.is_minimal_block.ensures.areas_kept.route_kept c.allowed_route.ensures.allowed
+    c.if-not-ends_open.false p.set_value (sym c.is_minimal_block.ensures.value ∙ c.if-not-is_minimal_block.false) _ (ap wall_answer c.in-None.is) list
+    c.is_minimal_block.ensures.areas_kept.route_kept c.allowed_route.ensures.allowed
 
 pub returns-in-Some-clause-map_bytes : goal.returns-in-Some-clause-map_bytes
 returns-in-Some-clause-map_bytes c =
     let g = c.args.ground.now in
     let l = lent_lifted (steps_of g.steps.now) (block_on g c.args.given.now) c.args.set.now c.requires.route_lent
-            c.is_minimal_block.ensures.map_after c.is_minimal_block.ensures.areas_kept in
+    c.is_minimal_block.ensures.map_after c.is_minimal_block.ensures.areas_kept in
     ap (λ (x : List ℕ). length x) c.allowed_route.ensures.map_after ∙ length_allowed g.window (allow_given g c.args.given.now) c.args.set.now c.is_minimal_block.new.areas.map.now l.bytes
 
 pub returns-in-None-clause-map_bytes : goal.returns-in-None-clause-map_bytes
 returns-in-None-clause-map_bytes c =
     let g = c.args.ground.now in
     let l = lent_lifted (steps_of g.steps.now) (block_on g c.args.given.now) c.args.set.now c.requires.route_lent
-            c.is_minimal_block.ensures.map_after c.is_minimal_block.ensures.areas_kept in
+    c.is_minimal_block.ensures.map_after c.is_minimal_block.ensures.areas_kept in
     ap (λ (x : List ℕ). length x) c.allowed_route.ensures.map_after ∙ length_allowed g.window (allow_given g c.args.given.now) c.args.set.now c.is_minimal_block.new.areas.map.now l.bytes

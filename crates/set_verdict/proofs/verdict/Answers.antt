@@ -2,10 +2,9 @@
 use mathlib.Core.Path.{refl, ◌∙◌}
 use Prim.Native.Nat.{◌/◌}
 use lib.ListN.{length}
-use Rattle.base_laws.proofs.Stores.{wiped_whole}
-use Rattle.ground_rects.specs.Windows.{centres, centre_at}
+use Rattle.ground_rects.specs.Windows.{centre_at}
 use Rattle.rule_routes.specs.Edges.{steps_of}
-use Rattle.set_verdict.proofs.Judging.{verdict_slots, verdict_overlap, verdict_fit, lent_blank, blank_again}
+use Rattle.set_verdict.proofs.Judging.{verdict_slots, verdict_overlap, verdict_fit, lent_blank}
 use Rattle.set_verdict.proofs.verdict.Goals as goal
 
 pub returns-then-over_slots-clause-value : goal.returns-then-over_slots-clause-value
@@ -38,8 +37,3 @@ returns-clause-value c =
     c.fit_verdict-verdict.ensures.value
     ∙ verdict_fit g n (steps_of c.args.steps.now) c.args.set.now p.fours p.eights c.centre_at.result c.centre_at-2.result c.centre_at.ensures.0 c.centre_at-2.ensures.0
     c.over_slots.result (c.over_slots.ensures n) c.if-over_slots.false c.overlaps.result c.overlaps.ensures c.if-overlaps.false
-
-pub returns-clause-blank_2 : goal.returns-clause-blank_2
-returns-clause-blank_2 c =
-    blank_again c.requires.blank (c.clear.ensures ∙ wiped_whole 0 (centres c.args.given.now.query.window) c.fit_verdict-verdict.new.areas.map.now c.fit_verdict-verdict.ensures.map_bytes)
-    c.fit_verdict-verdict.ensures.areas_kept
