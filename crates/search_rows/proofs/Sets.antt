@@ -1,5 +1,5 @@
 -- Sets as rows: when two are the same, what a look through rows finds, and how a member is put into its place.
-use Prim.Native.Nat.{ℕ, zero, suc, ◌+◌, ◌-◌, ◌*◌, ◌≤◌, ◌<◌}
+use Prim.Native.Nat.{ℕ, suc, ◌+◌, ◌-◌, ◌*◌, ◌≤◌, ◌<◌}
 use mathlib.Core.Path.{◌≡◌, refl, sym, ◌∙◌, ap, subst}
 use mathlib.Core.Bool.{Bool, true, false, not, ◌||◌, true≢false}
 use mathlib.Core.List.{List, [], ◌∷◌, ◌++◌, append_assoc}
@@ -34,13 +34,6 @@ row_differs held l at i h n = same_ne held (take 7 (drop at l)) (λ e. n (ap (λ
 -- from entry i on they are equal
 abbrev pub EqualFrom : (held l : List ℕ) (at i : ℕ) → Type 0
 EqualFrom held l at i = (k : ℕ) → i ≤ k → k < 7 → get_or held k 0 ≡ get_or l (at + k) 0
-
-pub equal_more : (held l : List ℕ) (at i j : ℕ) → i ≡ j + 1 → EqualFrom held l at i → get_or held j 0 ≡ get_or l (at + j) 0 → EqualFrom held l at j
-equal_more held l at i j e f g k h w = go (k - j) refl
-  where
-    go : (d : ℕ) → k - j ≡ d → get_or held k 0 ≡ get_or l (at + k) 0
-    go zero q = let z : j ≡ k = omega arith in subst (λ (x : ℕ). get_or held x 0 ≡ get_or l (at + x) 0) z g
-    go (suc d) q = f k (omega arith) w
 
 pub row_equals : (held l : List ℕ) (at i : ℕ) → length held ≡ 7 → at + 7 ≤ length l → i ≤ 0 → EqualFrom held l at i → same held (take 7 (drop at l)) ≡ true
 row_equals held l at i e h j f =

@@ -1,4 +1,5 @@
-// A plan: what a search or a judgement is given, the placements lent as a row of records; and what of it is lent on once they are laid flat.
+// A plan: what a search or a judgement is given, the placements lent as a row of records; and what of it is lent on once they are
+// laid flat.
 #![tactic(auto)]
 
 ghost use Rattle.std.specs.Prelude.{◌≡◌};

@@ -6,9 +6,6 @@ use Rattle.search_turn.proofs.seek.Goals as goal
 pub loop-next-init : goal.loop-next-init
 loop-next-init c = seeking_begin _ _ _ _ _ c.requires
 
-pub turn-requires : goal.turn-requires
-turn-requires c = c.loop-next.invariant.some
-
 pub returns-in-Break : goal.returns-in-Break
 returns-in-Break c = seeking_end _ _ _ _ _ _ _ c.loop-next.invariant _ _ _ c.in-Break.ensures refl
 

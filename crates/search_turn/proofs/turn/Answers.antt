@@ -2,11 +2,8 @@
 use mathlib.Core.Path.{sym, ◌∙◌}
 use native.Mathlib.Omega.{arith}
 use Rattle.search_turn.proofs.Sights.{few_lists}
-use Rattle.search_turn.proofs.Turns.{x_stopped, x_limit, x_over, x_seen, x_new, x_take, x_pop, top_fits}
+use Rattle.search_turn.proofs.Turns.{x_limit, x_over, x_seen, x_new, x_take, x_pop, top_fits}
 use Rattle.search_turn.proofs.turn.Goals as goal
-
-pub returns-then-rec-ne-RUNNING : goal.returns-then-rec-ne-RUNNING
-returns-then-rec-ne-RUNNING c = λ g p l₀ v₀ s fit h. x_stopped g p _ _ fit l₀ v₀ _ _ _ s h c.if-rec-ne-RUNNING.true
 
 pub returns-then-limits-rec : goal.returns-then-limits-rec
 returns-then-limits-rec c = λ g p l₀ v₀ s fit h. x_limit g p _ _ fit l₀ v₀ _ _ _ s h c.if-rec-ne-RUNNING.false c.if-limits-rec.true
