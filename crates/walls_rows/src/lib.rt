@@ -37,15 +37,18 @@ fn edges_of(r: Rect) -> [i32; SIDES]
     [r.left, r.top, r.right, r.bottom]
 }
 
-// Placement i: its numbers and its edges.
-pub fn lay(numbers: &mut [u32], edges: &mut [i32], i: usize, p: Placement)
+// Placement i: its numbers and its edges; the next index.
+pub fn lay(numbers: &mut [u32], edges: &mut [i32], i: usize, p: Placement) -> usize
     requires { (4 * i + 4 ≤ length numbers.old) × (8 * i + 8 ≤ length edges.old) }
-    ensures { (numbers.new ≡ over numbers.old (4 * i) (place_numbers p)) × (edges.new ≡ over edges.old (8 * i) (both_of p)) }
+    ensures { (result ≡ i + 1)
+        × ((numbers.new ≡ over numbers.old (4 * i) (place_numbers p))
+        × (edges.new ≡ over edges.old (8 * i) (both_of p))) }
 {
     let at = EDGES * i;
     put(numbers, NUMBERS * i, &numbers_of(p));
     put(edges, at, &edges_of(p.footprint));
     put(edges, at + SIDES, &edges_of(p.collision));
+    i + 1
 }
 
 pub fn at_most(n: usize) -> usize

@@ -10,7 +10,7 @@ loop-i-init c = turn_none _ _ _
 
 pub loop-i-preserved : goal.loop-i-preserved
 unfolding no_place rect
-loop-i-preserved c = turn_more _ _ _ c.requires.0 c.requires.1 _ _ _ c.loop-i-test.true c.loop-i.invariant _ _ c.lay.ensures
+loop-i-preserved c = turn_more _ _ _ c.requires.0 c.requires.1 _ _ _ c.loop-i-test.true c.loop-i.invariant _ _ c.lay.ensures.1
 
 pub returns : goal.returns
 returns c = turn_all _ _ _ _ _ _ (omega arith) c.loop-i.invariant

@@ -16,8 +16,11 @@ returns c =
     let p = c.args.p in
     let xs = c.args.edges.now in
     let first = c.put-2.ensures ∙ ap (λ (q : List ℤ). over xs (8 * i) q) c.edges_of.ensures in (
-      c.put.ensures ∙ ap (λ (q : List ℕ). over c.args.numbers.now (4 * i) q) c.numbers_of.ensures,
-      c.put-3.ensures ∙ ap (λ (q : List ℤ). over c.put-2.new.row (8 * i + 4) q) c.edges_of-2.ensures
-          ∙ ap (λ (l : List ℤ). over l (8 * i + 4) (rect_edges p.collision)) first
-          ∙ over_twice xs (8 * i) (rect_edges p.footprint) (rect_edges p.collision) (8 * i + 4) refl (omega (arith, c.requires.1)),
+      refl,
+      (
+        c.put.ensures ∙ ap (λ (q : List ℕ). over c.args.numbers.now (4 * i) q) c.numbers_of.ensures,
+        c.put-3.ensures ∙ ap (λ (q : List ℤ). over c.put-2.new.row (8 * i + 4) q) c.edges_of-2.ensures
+            ∙ ap (λ (l : List ℤ). over l (8 * i + 4) (rect_edges p.collision)) first
+            ∙ over_twice xs (8 * i) (rect_edges p.footprint) (rect_edges p.collision) (8 * i + 4) refl (omega (arith, c.requires.1)),
+      ),
     )
