@@ -4,7 +4,6 @@ use Rattle.std.proofs.Math.Option.{Option}
 use Rattle.base_laws.specs.Lists.{all_of, total}
 use Rattle.base_model.specs.Answers.{Said, ask}
 use Rattle.base_model.specs.declared.Rect.{Rect}
-use Rattle.base_model.specs.declared.Placement.{Placement}
 use Rattle.base_model.specs.Allow.{Allow}
 use Rattle.std.specs.Prelude.{None, Some}
 use Rattle.base_model.specs.declared.Query.{Query}
@@ -13,7 +12,7 @@ use Rattle.ground_rects.specs.Rects.{small}
 use Rattle.ground_rects.specs.Windows.{centres, window_fits, in_window}
 use Rattle.rule_layouts.specs.Flat.{placement_at}
 use Rattle.rule_layouts.specs.Inputs.{Inputs}
-use Rattle.rule_calls.specs.Checks.{placement_fits, first_misplaced}
+use Rattle.rule_calls.specs.Checks.{placement_fits}
 
 -- the refusal unless the condition holds
 abbrev pub asked : Bool → Refusal → Result Unit Refusal
@@ -48,10 +47,6 @@ areas_of n allow block_base allow_base long = ask 6 (leb n (length block_base) &
 
 unfoldable pub area_checks : Inputs → (long : Bool) → List (Option Said)
 area_checks i long = areas_of (centres i.query.window) i.query.allow i.block_base i.allow_base long
-
--- 14 and 15
-unfoldable pub places_asked : Rect → List ℕ → List Placement → List (Option Said)
-places_asked w groups ps = ask 14 (leb (length ps) 6144) ∷ first_misplaced w groups 0 ps ∷ []
 
 -- r is the first of n placements lent flat that does not pass 15, and n where all pass
 pub record Misplaced (w : Rect) (groups numbers : List ℕ) (edges : List ℤ) (n r : ℕ) : Type 0 where
