@@ -56,13 +56,10 @@ fn tidied(rec: Record) -> Record
     ensures { (result ≡ tidy rec) × Sized rec }
 {
     let lists = rec.lists as usize;
-    let routes = cleared(rec.routes, rec.layouts as usize);
-    let lengths = cleared(rec.lengths, lists);
-    let nexts = cleared(rec.nexts, lists);
     Record {
-        routes,
-        lengths,
-        nexts,
+        routes: cleared(rec.routes, rec.layouts as usize),
+        lengths: cleared(rec.lengths, lists),
+        nexts: cleared(rec.nexts, lists),
         ..rec
     }
 }
