@@ -1,4 +1,4 @@
--- What was written is the answer to what arrived: 18 where no whole text stands in the area, otherwise what `sheet_answer::answer` wrote, whose area is long enough.
+-- What was written is the answer to what arrived: 18 where no whole text stands in the area, otherwise what `sheet_answer::answer` wrote.
 use Prim.Native.Nat.{ℕ, ◌≤◌, ◌<◌}
 use mathlib.Core.Path.{◌≡◌, refl, sym, ◌∙◌, ap, subst}
 use mathlib.Core.Option.{none, some}
@@ -13,9 +13,8 @@ use Rattle.base_model.specs.Answers.{refusal}
 use Rattle.text_forms.specs.Writing.{Put}
 use Rattle.sheet_texts.specs.Parts.{enough}
 use Rattle.sheet_texts.specs.Texts.{refusal_text}
-use Rattle.sheet_answer.specs.Answers.{WrittenOut, TooShort, AnsweredBy, Answers}
-use Rattle.sheet_answer.specs.declared.Answered.{Answered}
-use Rattle.sheet_answer.specs.declared.Answered.TheVariants as answered
+use Rattle.sheet_answer.specs.Answers.{WrittenOut, AnsweredBy, Answers}
+use Rattle.std.specs.Prelude.{Option, Some}
 use Rattle.sheet_texts.proofs.Fronts.{front_18}
 use Rattle.sheet_reply.specs.Inner.{InFront}
 use Rattle.sheet_reply.specs.Replies.{text_in, AnswerTo, Replies}
@@ -50,16 +49,11 @@ module _ (input : Arrival) (area before out : List ℕ) (n : ℕ) where
         in_front (refusal_text (refusal 18)) before out n f.text f.ends,
       )
 
-  pub answered_whole : (k : ℕ) (r : Answered) → input ≡ Whole k → k ≤ length area → r ≡ answered.Written n → Answers (take k area) before out r
+  pub answered_whole : (k : ℕ) (r : Option ℕ) → input ≡ Whole k → k ≤ length area → r ≡ Some n → Answers (take k area) before out r
       → Replies input area before out n × InFront n out
   unfolding AnswerTo
   answered_whole k r e h w a =
-      let x : WrittenOut (take k area) before out n = subst (λ (y : Answered). AnsweredBy (take k area) before out y) w a.answer in (
+      let x : WrittenOut (take k area) before out n = subst (λ (y : Option ℕ). AnsweredBy (take k area) before out y) w a.answer in (
         record { bytes = x.bytes; is = rw (there input k area e h) x.is; out_is = x.out_is; ends = x.long },
         in_front x.bytes before out n x.out_is x.long,
       )
-
-pub never_short : (text before out : List ℕ) (r : Answered) → enough ≤ length before → r ≡ answered.Short → Answers text before out r → ⊥
-never_short text before out r room e a =
-    let x : TooShort before out = subst (λ (y : Answered). AnsweredBy text before out y) e a.answer in
-    omega (arith, x.short)

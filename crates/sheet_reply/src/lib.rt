@@ -5,7 +5,6 @@ ghost use Rattle.sheet_reply.specs.Inner.{InFront};
 ghost use Rattle.sheet_reply.specs.Replies.{Replies};
 
 use input_arrival::Arrival;
-use sheet_answer::Answered;
 use sheet_form::NO_SHEET;
 use sheet_write::ENOUGH;
 
@@ -15,14 +14,8 @@ pub fn reply(input: Arrival, area: &[u8], out: &mut [u8; ENOUGH]) -> usize
     ensures replies { Replies input area.now out.old out.new result }
     ensures in_front { InFront result out.new }
 {
-    let Arrival::Whole(n) = input else {
-        return sheet_write::write_refused(out, NO_SHEET);
-    };
-    if area.len() < n {
-        return sheet_write::write_refused(out, NO_SHEET);
+    match input {
+        Arrival::Whole(n) if n <= area.len() => { sheet_answer::answer(&area[..n], out).unwrap() }
+        _ => sheet_write::write_refused(out, NO_SHEET),
     }
-    let Answered::Written(end) = sheet_answer::answer(&area[..n], out) else {
-        return 0;
-    };
-    end
 }

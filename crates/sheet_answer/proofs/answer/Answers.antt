@@ -16,21 +16,18 @@ returns-in_default c =
 
 pub returns-then-not-within_caps : goal.returns-then-not-within_caps
 returns-then-not-within_caps c =
-    answer_over _ _ _ _ _ _ _ (got _ _ _ _ _ _ _ c.read_sheet.ensures _ c.in-Sheet.is) _ _ _
+    answer_over _ _ _ _ _ _ _ (got _ _ _ _ _ _ _ c.read_sheet.ensures _ c.in-Some.is) _ _ _
     (sym c.within_caps.ensures ∙ c.if-not-within_caps.true)
     (front_18 _ _ _ c.if-out-lt-ENOUGH.false c.write_refused-then-not-within_caps.ensures)
 
-pub driven-requires : goal.driven-requires
-driven-requires c = record {
-  rooms =
-      rooms _ _ _ _ _ _ _ (got _ _ _ _ _ _ _ c.read_sheet.ensures _ c.in-Sheet.is) (search rules) (search rules) (search rules) (search rules)
-      (search rules);
-  enough_in_bounds = c.if-out-lt-ENOUGH.false;
-}
+pub driven-requires-clause-rooms : goal.driven-requires-clause-rooms
+driven-requires-clause-rooms c =
+    rooms _ _ _ _ _ _ _ (got _ _ _ _ _ _ _ c.read_sheet.ensures _ c.in-Some.is) (search rules) (search rules) (search rules) (search rules)
+    (search rules)
 
 pub returns : goal.returns
 returns c =
-    let g = got _ _ _ _ _ _ _ c.read_sheet.ensures _ c.in-Sheet.is in
+    let g = got _ _ _ _ _ _ _ c.read_sheet.ensures _ c.in-Some.is in
     answer_driven _ _ _ _ _ _ _ g _ _ _ c.if-text-gt-MOST_BYTES.false
     (sym c.within_caps.ensures ∙ c.if-not-within_caps.false)
     (c.driven.ensures g.value g.fits g.held)
