@@ -6,7 +6,8 @@ ghost use Rattle.base_laws.specs.Lists.{ascends, is_some};
 ghost use Rattle.set_blocked.specs.Blocked.{left_by, AllowReady, Named};
 ghost use Rattle.route_find.specs.Ground.{open_in};
 ghost use Rattle.route_find.specs.Results.{Routed};
-ghost use Rattle.set_pass.specs.Lent.{Lent, Meets, Kept, Restored, past, is_minimal, allow_on, allowed_on, map_past, map_lifted, map_allowed};
+ghost use Rattle.set_pass.specs.Lent.{Lent, Meets, Kept, Restored, past, is_minimal, map_past, map_lifted};
+ghost use Rattle.set_pass.specs.Lent.{allow_on, allowed_on, map_allowed};
 ghost use Rattle.set_pass.specs.Allowed.{Allowed};
 
 use base_model::{Bounds, Rect};
