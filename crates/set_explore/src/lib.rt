@@ -12,6 +12,7 @@ ghost use Rattle.set_board.specs.Ready.{ReadyFor, BlankIn};
 ghost use Rattle.set_pass.specs.Pass.{Shutting};
 ghost use Rattle.set_pass.specs.Lent.{Lent, Restored, block_past, map_block};
 ghost use Rattle.set_explore.specs.Evaluation.{Evaluated, MapRestoredIn, ReadyOn, board_on};
+ghost use Rattle.set_pass.specs.Same.{SameAreas};
 
 use set_blocked::Mover;
 use set_pass::{Areas, Ground};
@@ -38,6 +39,7 @@ fn wall_of(ground: &Ground<'_>, given: &Given<'_>, set: &[u16], areas: &mut Area
     ensures search_restored { Restored areas.old areas.new }
     ensures map_bytes { length areas.new.map.now ≡ centres ground.now.window }
     ensures route_length { length areas.new.route.now ≡ length areas.old.route.now }
+    ensures same_areas { SameAreas areas.old areas.new }
 {
     if !set_pass::ends_open(ground, areas) {
         return Explored::Nothing;
@@ -70,6 +72,7 @@ fn evaluate(
     ensures search_restored { Restored areas.old areas.new }
     ensures map_bytes { length areas.new.map.now ≡ centres ground.now.window }
     ensures route_length { length areas.new.route.now ≡ length areas.old.route.now }
+    ensures same_areas { SameAreas areas.old areas.new }
 {
     let block = Mover {
         bounds: given.query.block,
@@ -106,6 +109,7 @@ pub fn explore(
         result list.old list.new areas.old.route.now areas.new.route.now }
     ensures map_restored { MapRestoredIn areas.old areas.new }
     ensures route_length { length areas.new.route.now ≡ length areas.old.route.now }
+    ensures same_areas { SameAreas areas.old areas.new }
 {
     let query = given.query;
     let ground = Ground {

@@ -9,6 +9,7 @@ ghost use Rattle.rule_layouts.specs.Boards.{leaves_open};
 ghost use Rattle.set_blocked.specs.Blocked.{mover_in};
 ghost use Rattle.set_pass.specs.Lent.{Restored};
 ghost use Rattle.set_ground.specs.Ground.{GroundLentFor};
+ghost use Rattle.set_pass.specs.Same.{SameAreas};
 
 use route_step::Grid;
 use set_blocked::Mover;
@@ -27,6 +28,7 @@ pub fn ground_left(given: &Given<'_>, set: &[u16], areas: &mut Areas<'_>) -> u32
     ensures map_after { areas.new.map.now ≡ replicate (centres given.now.query.window) 0 }
     ensures search_restored { Restored areas.old areas.new }
     ensures route_kept { areas.new.route.now ≡ areas.old.route.now }
+    ensures same_areas { SameAreas areas.old areas.new }
 {
     let query = given.query;
     let window = query.window;

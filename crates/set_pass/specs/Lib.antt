@@ -2,3 +2,4 @@ pub mod Lent
 pub mod Pass
 pub mod Maps
 pub mod Allowed
+pub mod Same

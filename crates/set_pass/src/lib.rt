@@ -9,6 +9,7 @@ ghost use Rattle.route_find.specs.Results.{Routed};
 ghost use Rattle.set_pass.specs.Lent.{Lent, Meets, Kept, Restored, past, is_minimal, map_past, map_lifted};
 ghost use Rattle.set_pass.specs.Lent.{allow_on, allowed_on, map_allowed};
 ghost use Rattle.set_pass.specs.Allowed.{Allowed};
+ghost use Rattle.set_pass.specs.Same.{SameAreas};
 
 use base_model::{Bounds, Rect};
 use route_step::Grid;
@@ -58,6 +59,7 @@ pub fn route_past(
     ensures search_restored { Restored areas.old areas.new }
     ensures map_after { areas.new.map.now ≡ map_past ground.now mover.now (left_by lifted set.now) }
     ensures route_length { length areas.new.route.now ≡ length areas.old.route.now }
+    ensures same_areas { SameAreas areas.old areas.new }
 {
     let window = ground.window;
     let map = &mut *areas.map;
@@ -93,6 +95,7 @@ pub fn lets_pass(
     ensures value { result ≡ is_some (past ground.now mover.now (left_by lifted set.now)) }
     ensures areas_kept { Kept areas.old areas.new }
     ensures map_after { areas.new.map.now ≡ map_past ground.now mover.now (left_by lifted set.now) }
+    ensures same_areas { SameAreas areas.old areas.new }
 {
     let Some(n) = route_past(ground, mover, set, lifted, areas) else {
         return false;
@@ -115,6 +118,7 @@ pub fn is_minimal_block(
     ensures value { result ≡ is_minimal ground.now mover.now set.now }
     ensures areas_kept { Kept areas.old areas.new }
     ensures map_after { areas.new.map.now ≡ map_lifted ground.now mover.now set.now areas.old.map.now }
+    ensures same_areas { SameAreas areas.old areas.new }
 {
     for k in 0..set.len() {
         if !lets_pass(ground, mover, set, Some(k), areas) {
@@ -141,6 +145,7 @@ pub fn allowed_route(
     ensures search_restored { Restored areas.old areas.new }
     ensures map_after { areas.new.map.now ≡ map_allowed ground.now (allow_on ground.now allow base.now) set.now areas.old.map.now }
     ensures route_length { length areas.new.route.now ≡ length areas.old.route.now }
+    ensures same_areas { SameAreas areas.old areas.new }
 {
     let Some(bounds) = allow else {
         return Some(0);

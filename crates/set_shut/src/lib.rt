@@ -8,6 +8,7 @@ ghost use Rattle.set_blocked.specs.Blocked.{AllowReady, Named};
 ghost use Rattle.set_pass.specs.Pass.{Shutting};
 ghost use Rattle.set_pass.specs.Lent.{Lent, Kept, allow_on, allowed_on};
 ghost use Rattle.set_shut.specs.Shut.{shut_on};
+ghost use Rattle.set_pass.specs.Same.{SameAreas};
 
 use base_model::{Bounds, Verdict};
 use set_blocked::Mover;
@@ -28,6 +29,7 @@ fn lets_allowed(
     ensures value { result ≡ is_some (allowed_on ground.now (allow_on ground.now allow base.now) set.now) }
     ensures areas_kept { Kept areas.old areas.new }
     ensures map_bytes { length areas.new.map.now ≡ centres ground.now.window }
+    ensures same_areas { SameAreas areas.old areas.new }
 {
     let Some(n) = set_pass::allowed_route(ground, allow, base, set, areas) else {
         return false;
@@ -48,6 +50,7 @@ pub fn shut_verdict(
     ensures value { result ≡ shut_on ground.now given.now set.now }
     ensures areas_kept { Kept areas.old areas.new }
     ensures map_bytes { length areas.new.map.now ≡ centres ground.now.window }
+    ensures same_areas { SameAreas areas.old areas.new }
 {
     let block = Mover {
         bounds: given.query.block,

@@ -11,6 +11,7 @@ ghost use Rattle.set_pass.specs.Pass.{Shutting};
 ghost use Rattle.set_pass.specs.Lent.{Lent, Kept};
 ghost use Rattle.set_board.specs.Ready.{ReadyFor, BlankIn};
 ghost use Rattle.set_verdict.specs.Fit.{fit_on};
+ghost use Rattle.set_pass.specs.Same.{SameAreas};
 
 use base_model::Verdict;
 use set_blocked::Mover;
@@ -29,6 +30,7 @@ fn fit_verdict(
     ensures value { result ≡ fit_on ground.now given.now set.now }
     ensures areas_kept { Kept areas.old areas.new }
     ensures map_bytes { length areas.new.map.now ≡ centres ground.now.window }
+    ensures same_areas { SameAreas areas.old areas.new }
 {
     let block = Mover {
         bounds: given.query.block,
@@ -50,6 +52,7 @@ pub fn verdict(given: &Given<'_>, steps: &[i32], set: &[u16], areas: &mut Areas<
     requires blank { BlankIn (centres given.now.query.window) areas.old }
     ensures value { result ≡ layouts.verdict (board_of (steps_of steps.now) (inputs_in given.now)) set.now }
     ensures blank_2 { BlankIn (centres given.now.query.window) areas.new }
+    ensures same_areas { SameAreas areas.old areas.new }
 {
     if set_clash::over_slots(&given.places, set) {
         return Verdict::Slots;
