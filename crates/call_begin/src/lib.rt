@@ -10,6 +10,7 @@ ghost use Rattle.rule_calls.specs.Areas.{record_of};
 ghost use Rattle.rule_calls.specs.Calls.{no_record, record_or, begin_checks, begin_over, begin_call};
 ghost use Rattle.set_places.specs.Given.{inputs_in};
 ghost use Rattle.call_lengths.specs.Lent.{work_of, store_of_areas};
+ghost use Rattle.call_lengths.specs.Same.{SameWork, SameStore};
 
 use base_model::{Limits, RUNNING, Record, Refusal, fresh_record};
 use call_checks::ask;
@@ -33,13 +34,15 @@ fn begin_checked(
     store: &mut Store<'_>,
 ) -> Result<Record, Refusal>
     requires { first (begin_checks (inputs_in given.now) limits (work_of work.old) (store_of_areas store.old)) ≡ none }
-    ensures { begin_over (steps_of steps.now) (inputs_in given.now) limits (work_of work.old) (store_of_areas store.old)
+    ensures call { begin_over (steps_of steps.now) (inputs_in given.now) limits (work_of work.old) (store_of_areas store.old)
         ≡ record {
           answer = reply_of result;
           rec = record_or no_record result;
           work = work_of work.new;
           store = store_of_areas store.new;
         } }
+    ensures same_work { SameWork work.old work.new }
+    ensures same_store { SameStore store.old store.new }
 {
     call_clear::clear_work(given.query.window, work);
     call_movers::late_checks(given, steps, work)?;
@@ -57,13 +60,15 @@ pub fn begin(
     work: &mut Work<'_>,
     store: &mut Store<'_>,
 ) -> Result<Record, Refusal>
-    ensures { begin_call steps.now (inputs_in given.now) limits (work_of work.old) (store_of_areas store.old)
+    ensures call { begin_call steps.now (inputs_in given.now) limits (work_of work.old) (store_of_areas store.old)
         ≡ record {
           answer = reply_of result;
           rec = record_or no_record result;
           work = work_of work.new;
           store = store_of_areas store.new;
         } }
+    ensures same_work { SameWork work.old work.new }
+    ensures same_store { SameStore store.old store.new }
 {
     ask(table_fits(steps), Refusal::StepsInvalid)?;
     call_checks::begin_checks(given, limits, work.lengths(), store.lengths())?;

@@ -12,6 +12,7 @@ ghost use Rattle.ground_rects.specs.Windows.{centres};
 ghost use Rattle.call_lengths.specs.Lent.{work_of};
 ghost use Rattle.call_checks.specs.Parts.{allow_long};
 ghost use Rattle.call_movers.specs.Movers.{allow_passage, Swept, Movable, Bases};
+ghost use Rattle.call_lengths.specs.Same.{SameWork};
 
 use base_model::{Query, Refusal};
 use call_lengths::Work;
@@ -29,6 +30,7 @@ fn check_allowed(
         × (allow_long (centres query.window) query.allow (length base.now) ≡ true) }
     ensures result_value { reply_of result ≡ allow_passage (steps_of steps.now) query base.now }
     ensures work_unchanged { work_of work.new ≡ work_of work.old }
+    ensures same_work { SameWork work.old work.new }
 {
     if query.allow.is_none() {
         return Ok(());
@@ -43,6 +45,7 @@ fn check_routes(given: &Given<'_>, steps: &[i32], work: &mut Work<'_>) -> Result
     ensures result_value { (i : Inputs) → Bases i given.now.query given.now.block_base.now given.now.allow_base.now
         → reply_of result ≡ first (both_routes (board_of (steps_of steps.now) i)) }
     ensures work_unchanged { work_of work.new ≡ work_of work.old }
+    ensures same_work { SameWork work.old work.new }
 {
     let query = given.query;
     check_passage(
@@ -63,6 +66,7 @@ pub fn late_checks(given: &Given<'_>, steps: &[i32], work: &mut Work<'_>) -> Res
     ensures result_value { reply_of result ≡ first
         (both_routes (board_of (steps_of steps.now) (inputs_in given.now)) ++ place_checks (inputs_in given.now)) }
     ensures work_unchanged { work_of work.new ≡ work_of work.old }
+    ensures same_work { SameWork work.old work.new }
 {
     check_routes(given, steps, work)?;
     call_checks::check_places(given.query.window, &given.places)

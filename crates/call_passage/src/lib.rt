@@ -6,6 +6,7 @@ ghost use Rattle.base_model.specs.Answers.{reply_of};
 ghost use Rattle.rule_routes.specs.Edges.{steps_of};
 ghost use Rattle.call_lengths.specs.Lent.{work_of};
 ghost use Rattle.call_passage.specs.Passages.{passage_over, PassageReady};
+ghost use Rattle.call_lengths.specs.Same.{SameWork};
 
 use base_model::{Position, Rect, Refusal};
 use call_lengths::Work;
@@ -24,6 +25,7 @@ pub fn check_passage(
     requires { PassageReady window start end base.now work.old.queue.now work.old.predecessors.now work.old.route.now }
     ensures result_value { reply_of result ≡ passage_over (steps_of steps.now) window start end base.now }
     ensures work_unchanged { work_of work.new ≡ work_of work.old }
+    ensures same_work { SameWork work.old work.new }
 {
     let from = centre_at(window, start);
     let to = centre_at(window, end);

@@ -10,6 +10,7 @@ ghost use Rattle.rule_calls.specs.Calls.{prepare_checks, prepare_over, prepare_c
 ghost use Rattle.call_lengths.specs.Lengths.{WorkHas};
 ghost use Rattle.call_lengths.specs.Lent.{work_of};
 ghost use Rattle.call_prepare.specs.Prepare.{preparation_in};
+ghost use Rattle.call_lengths.specs.Same.{SameWork};
 
 use base_model::{Bounds, CELL, Position, Rect, Refusal};
 use call_checks::ask;
@@ -63,8 +64,9 @@ fn prepare_checked(
     work: &mut Work<'_>,
 ) -> Result<(), Refusal>
     requires { first (prepare_checks (preparation_in asked.now) baseline.old (work_of work.old)) ≡ none }
-    ensures { prepare_over (steps_of steps.now) (preparation_in asked.now) baseline.old (work_of work.old)
+    ensures call { prepare_over (steps_of steps.now) (preparation_in asked.now) baseline.old (work_of work.old)
         ≡ record { answer = reply_of result; baseline = baseline.new; work = work_of work.new } }
+    ensures same_work { SameWork work.old work.new }
 {
     let window = asked.window;
     let c = call_lengths::centres(window);
@@ -108,8 +110,9 @@ pub fn prepare(
     baseline: &mut [u8],
     work: &mut Work<'_>,
 ) -> Result<(), Refusal>
-    ensures { prepare_call steps.now (preparation_in asked.now) baseline.old (work_of work.old)
+    ensures call { prepare_call steps.now (preparation_in asked.now) baseline.old (work_of work.old)
         ≡ record { answer = reply_of result; baseline = baseline.new; work = work_of work.new } }
+    ensures same_work { SameWork work.old work.new }
 {
     ask(table_fits(steps), Refusal::StepsInvalid)?;
     prepare_checks(asked, baseline.len(), work.lengths())?;

@@ -10,6 +10,8 @@ ghost use Rattle.rule_calls.specs.Areas.{store_in};
 ghost use Rattle.call_lengths.specs.Lent.{store_of_areas};
 ghost use Rattle.search_steps.specs.Terms.{terms_of, HoldsSome, HoldsRipe};
 ghost use Rattle.search_steps.specs.Turned.{StepsTo, VisitsTo};
+ghost use Rattle.set_pass.specs.Same.{SameAreas};
+ghost use Rattle.call_lengths.specs.Same.{SameStore};
 
 use base_model::{Limits, ROW, RUNNING, Record, Rect};
 use call_lengths::Store;
@@ -58,6 +60,7 @@ fn visit(
         rec (store_in lists.old visited.old layouts.old points.old)
         result (store_in lists.new visited.new layouts.new points.new) }
     ensures blank_2 { BlankIn (centres given.now.query.window) areas.new }
+    ensures same_areas { SameAreas areas.old areas.new }
 {
     let n = rec.placements as usize;
     let count = rec.lists as usize;
@@ -97,6 +100,8 @@ pub fn steps(
     requires blank { BlankIn (centres given.now.query.window) areas.old }
     ensures steps_to { StepsTo (terms_of given.now steps.now limits) n rec (store_of_areas store.old) result (store_of_areas store.new) }
     ensures blank_2 { BlankIn (centres given.now.query.window) areas.new }
+    ensures same_areas { SameAreas areas.old areas.new }
+    ensures same_store { SameStore store.old store.new }
 {
     let places = rec.placements as usize;
     let lists = &mut *store.lists;

@@ -8,6 +8,7 @@ ghost use Rattle.rule_search.specs.State.{Extensions};
 ghost use Rattle.rule_calls.specs.Areas.{laid, row_of, row, lists_of};
 ghost use Rattle.call_lengths.specs.Lent.{store_of_areas};
 ghost use Rattle.search_tidy.specs.Stores.{RowsIn, ListsIn, tidy, Sized, PartsUsed, Passing, LaidBack};
+ghost use Rattle.call_lengths.specs.Same.{SameStore};
 
 use base_model::{Limits, Query, ROW, Record, SLOTS};
 use call_lengths::Store;
@@ -67,8 +68,9 @@ fn tidied(rec: Record) -> Record
 // Clears all that is unused: the search that the record and the areas hold, laid back.
 pub fn clear_unused(query: Query, limits: Limits, rec: Record, store: &mut Store<'_>) -> Record
     requires { PartsUsed query limits rec (store_of_areas store.old) }
-    ensures { (i : Inputs) → Passing i query limits rec (store_of_areas store.old)
+    ensures back { (i : Inputs) → Passing i query limits rec (store_of_areas store.old)
         → LaidBack i limits rec (store_of_areas store.old) result (store_of_areas store.new) }
+    ensures same_store { SameStore store.old store.new }
 {
     clear_lists(store.lists, rec);
     clear_rows(

@@ -15,16 +15,16 @@ use Rattle.call_checks.proofs.Passed.{done_passes, refused_says}
 use Rattle.call_begin.proofs.Beginning.{first_refused}
 use Rattle.call_begin.proofs.begin.Goals as goal
 
-pub returns-in_err-ask : goal.returns-in_err-ask
+pub returns-in_err-ask-clause-call : goal.returns-in_err-ask-clause-call
 unfolding reply_of said_of record_or
-returns-in_err-ask c =
+returns-in_err-ask-clause-call c =
     let t : table_fits c.args.steps.now ≡ false = grind (arith, common_steps, c.table_fits.ensures, c.ask.ensures, c.in_err-ask.was) in
     let says : c.from_residual.result ≡ Err StepsInvalid = grind (arith, common_steps, c.from_residual.ensures, c.ask.ensures, c.in_err-ask.was) in
     begin_turned c.args.steps.now t _ _ _ _ ∙ rw says refl
 
-pub returns-in_err-begin_checks : goal.returns-in_err-begin_checks
+pub returns-in_err-begin_checks-clause-call : goal.returns-in_err-begin_checks-clause-call
 unfolding reply_of record_or
-returns-in_err-begin_checks c =
+returns-in_err-begin_checks-clause-call c =
     let i = inputs_in c.args.given.now in
     let w = work_of c.args.work.now in
     let s = store_of_areas c.args.store.now in
@@ -37,7 +37,7 @@ pub begin_checked-requires : goal.begin_checked-requires
 begin_checked-requires c =
     done_passes (c.begin_checks.ensures (work_of c.args.work.now) (store_of_areas c.args.store.now) c.lengths.ensures c.lengths-2.ensures) c.in_ok-begin_checks.was
 
-pub returns : goal.returns
-returns c =
+pub returns-clause-call : goal.returns-clause-call
+returns-clause-call c =
     let t : table_fits c.args.steps.now ≡ true = grind (arith, common_steps, c.table_fits.ensures, c.ask.ensures, c.in_ok-ask.was) in
-    begin_over_lem _ t _ _ _ _ ∙ c.begin_checked.ensures
+    begin_over_lem _ t _ _ _ _ ∙ c.begin_checked.ensures.call

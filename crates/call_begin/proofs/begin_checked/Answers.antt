@@ -36,16 +36,16 @@ late_checks-requires c =
     let i = inputs_in c.args.given.now in
     let w = work_of c.args.work.now in
     let s = store_of_areas c.args.store.now in
-    movable i c.args.limits w s (work_of c.clear_work.new.work) (begun_found i c.args.limits w s c.requires) c.clear_work.ensures
+    movable i c.args.limits w s (work_of c.clear_work.new.work) (begun_found i c.args.limits w s c.requires) c.clear_work.ensures.cleared
 
-pub returns-in_err-late_checks : goal.returns-in_err-late_checks
+pub returns-in_err-late_checks-clause-call : goal.returns-in_err-late_checks-clause-call
 unfolding reply_of record_or inputs_of
-returns-in_err-late_checks c =
+returns-in_err-late_checks-clause-call c =
     let i = inputs_in c.args.given.now in
     let w = work_of c.args.work.now in
     let s = store_of_areas c.args.store.now in
     let p = err_from_is_err_and c.from_residual.result c.from_residual.ensures.1 in
-    rw (p.1, p.2) (later_refused (steps_of c.args.steps.now) i c.args.limits w s c.requires (c.late_checks.ensures.work_unchanged ∙ c.clear_work.ensures)
+    rw (p.1, p.2) (later_refused (steps_of c.args.steps.now) i c.args.limits w s c.requires (c.late_checks.ensures.work_unchanged ∙ c.clear_work.ensures.cleared)
     (refused_says c.late_checks.ensures.result_value c.in_err-late_checks.was))
 
 pub clear_store-requires : goal.clear_store-requires
@@ -66,12 +66,12 @@ overflow_cast-places c =
     let f = (first_both (both_routes (board_of (steps_of c.args.steps.now) i)) (place_checks i) (done_passes c.late_checks.ensures.result_value c.in_ok-late_checks.was)).1 in
     omega (arith, c.place_count-places.ensures, (places_whole i p.numbers.now p.edges.now refl f).few)
 
-pub returns : goal.returns
+pub returns-clause-call : goal.returns-clause-call
 unfolding reply_of record_or inputs_of
-returns c =
+returns-clause-call c =
     let i = inputs_in c.args.given.now in
     let w = work_of c.args.work.now in
     let s = store_of_areas c.args.store.now in
-    accepts (steps_of c.args.steps.now) i c.args.limits w s c.requires (c.late_checks.ensures.work_unchanged ∙ c.clear_work.ensures)
+    accepts (steps_of c.args.steps.now) i c.args.limits w s c.requires (c.late_checks.ensures.work_unchanged ∙ c.clear_work.ensures.cleared)
     (done_passes c.late_checks.ensures.result_value c.in_ok-late_checks.was)
-    (c.begun_record.ensures ∙ ap (λ (k : ℕ). record_of k begun) c.place_count-places.ensures) (c.clear_store.ensures i refl (sym c.place_count-places.ensures))
+    (c.begun_record.ensures ∙ ap (λ (k : ℕ). record_of k begun) c.place_count-places.ensures) (c.clear_store.ensures.cleared i refl (sym c.place_count-places.ensures))

@@ -14,16 +14,16 @@ use Rattle.call_prepare.specs.Prepare.{preparation_in}
 use Rattle.call_prepare.proofs.Apart.{prepare_refused}
 use Rattle.call_prepare.proofs.prepare.Goals as goal
 
-pub returns-in_err-ask : goal.returns-in_err-ask
+pub returns-in_err-ask-clause-call : goal.returns-in_err-ask-clause-call
 unfolding reply_of said_of
-returns-in_err-ask c =
+returns-in_err-ask-clause-call c =
     let t : table_fits c.args.steps.now ≡ false = grind (arith, common_steps, c.table_fits.ensures, c.ask.ensures, c.in_err-ask.was) in
     let says : reply_of c.from_residual.result ≡ some (refusal 19) = grind (arith, common_steps, c.from_residual.ensures, c.ask.ensures, c.in_err-ask.was) in
     prepare_turned _ t _ _ _ ∙ rw says refl
 
-pub returns-in_err-prepare_checks : goal.returns-in_err-prepare_checks
+pub returns-in_err-prepare_checks-clause-call : goal.returns-in_err-prepare_checks-clause-call
 unfolding reply_of
-returns-in_err-prepare_checks c =
+returns-in_err-prepare_checks-clause-call c =
     let t : table_fits c.args.steps.now ≡ true = grind (arith, common_steps, c.table_fits.ensures, c.ask.ensures, c.in_ok-ask.was) in
     let p = err_from_is_err_and c.from_residual-in_err-prepare_checks.result c.from_residual-in_err-prepare_checks.ensures.1 in
     prepare_over_lem _ t _ _ _ ∙ rw (p.1, p.2) (prepare_refused (steps_of c.args.steps.now) (preparation_in c.args.asked.now) c.args.baseline.now (work_of c.args.work.now)
@@ -32,7 +32,7 @@ returns-in_err-prepare_checks c =
 pub prepare_checked-requires : goal.prepare_checked-requires
 prepare_checked-requires c = done_passes (c.prepare_checks.ensures c.args.baseline.now (work_of c.args.work.now) refl c.lengths.ensures) c.in_ok-prepare_checks.was
 
-pub returns : goal.returns
-returns c =
+pub returns-clause-call : goal.returns-clause-call
+returns-clause-call c =
     let t : table_fits c.args.steps.now ≡ true = grind (arith, common_steps, c.table_fits.ensures, c.ask.ensures, c.in_ok-ask.was) in
-    prepare_over_lem _ t _ _ _ ∙ c.prepare_checked.ensures
+    prepare_over_lem _ t _ _ _ ∙ c.prepare_checked.ensures.call

@@ -37,15 +37,15 @@ check_passage-answer-requires c =
 pub clear-requires-then-is_err : goal.clear-requires-then-is_err
 clear-requires-then-is_err c = base_room _ _ _ c.requires _ c.centres-c.ensures.0 _ c.mark_baseline.ensures.baseline_after
 
-pub returns-then-is_err : goal.returns-then-is_err
-returns-then-is_err c =
+pub returns-then-is_err-clause-call : goal.returns-then-is_err-clause-call
+returns-then-is_err-clause-call c =
     leaves_zeros _ _ _ c.requires _ c.centres-c.ensures.0 _ c.mark_baseline.ensures.baseline_after
     (work_of c.check_passage-answer.new.work) (c.check_passage-answer.ensures.work_unchanged ∙ (emptied_is _ _ _ c.centres-c.ensures.0 c.mark_baseline.ensures.counts_after
     c.clear.ensures c.clear-2.ensures c.clear-3.ensures c.clear-4.ensures))
     _ _ c.check_passage-answer.ensures.result_value (sym c.is_err.ensures.value ∙ c.if-is_err.true) _ c.clear-then-is_err.ensures
 
-pub returns-else-is_err : goal.returns-else-is_err
-returns-else-is_err c =
+pub returns-else-is_err-clause-call : goal.returns-else-is_err-clause-call
+returns-else-is_err-clause-call c =
     leaves_marks _ _ _ c.requires _ c.centres-c.ensures.0 _ c.mark_baseline.ensures.baseline_after
     (work_of c.check_passage-answer.new.work) (c.check_passage-answer.ensures.work_unchanged ∙ (emptied_is _ _ _ c.centres-c.ensures.0 c.mark_baseline.ensures.counts_after
     c.clear.ensures c.clear-2.ensures c.clear-3.ensures c.clear-4.ensures))

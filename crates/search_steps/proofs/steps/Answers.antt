@@ -1,10 +1,11 @@
 -- The answers to the goals of `search_steps::steps`.
 use mathlib.Core.Path.{refl}
+use Rattle.std.proofs.Common.{rules}
 use Rattle.search_steps.proofs.Stepping.{stepping_begin, places_are, seek_asks, visit_asks, stepping_stopped, stepping_on}
 use Rattle.search_steps.proofs.steps.Goals as goal
 
 pub loop-i-init : goal.loop-i-init
-loop-i-init c = record { stepping = stepping_begin _ _ _ c.requires.holds_some; blank = c.requires.blank }
+loop-i-init c = record { stepping = stepping_begin _ _ _ c.requires.holds_some; blank = c.requires.blank; same = search rules }
 
 pub seek-found-requires : goal.seek-found-requires
 seek-found-requires c =
@@ -25,4 +26,5 @@ loop-i-preserved c = record {
   stepping = stepping_on _ c.args.rec.placements (places_are _ _ _ c.requires.holds_some c.args.rec.placements refl) _ _
       c.seek-found.result _ c.seek-found.ensures _ _ _ c.loop-i.invariant.stepping c.if-found-ne-RUNNING.false _ _ c.visit-r.ensures.visits_to;
   blank = c.visit-r.ensures.blank_2;
+  same = search rules;
 }

@@ -3,8 +3,8 @@ use Rattle.call_lengths.specs.Lent.{store_of_areas}
 use Rattle.search_tidy.proofs.Whole.{laid_back}
 use Rattle.search_tidy.proofs.clear_unused.Goals as goal
 
-pub returns : goal.returns
-returns c =
+pub returns-clause-back : goal.returns-clause-back
+returns-clause-back c =
     λ i p.
     let a = c.args in
     rw c.tidied.ensures.0
