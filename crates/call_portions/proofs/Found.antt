@@ -76,9 +76,9 @@ module _ (q : Query) (l : Limits) (groups numbers : List ℕ) (edges : List ℤ)
     unfolding inputs_of
     passing = record { query = refl; areas = found.areas; fits = found.fits }
 
-    pub unused_asks : PartsUsed q l r lists visited layouts points
+    pub unused_asks : PartsUsed q l r a
     unfolding inputs_of
-    unused_asks = used_parts i q l r lists visited layouts points window_fits_lem begun.limiting.states begun.limiting.results whole.few passing
+    unused_asks = used_parts i q l r a window_fits_lem begun.limiting.states begun.limiting.results whole.few passing
 
     sound : Sound (board_in t) (plan_in t)
     unfolding board_of places_of plan_of inputs_of

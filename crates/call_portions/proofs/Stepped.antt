@@ -20,7 +20,7 @@ use Rattle.rule_calls.specs.Calls.{step_checks, step_over}
 use Rattle.rule_calls.proofs.Back.{laid_clear}
 use Rattle.rule_calls.proofs.StepLaws.{left, step_is}
 use Rattle.search_steps.specs.Terms.{terms, plan_in, Holds}
-use Rattle.call_portions.specs.Ground.{WorkClear, WorkKept}
+use Rattle.call_portions.specs.Ground.{WorkClear}
 
 module _ (w : Rect) (work : Work) (counts : List ℤ) (map queue predecessors route : List ℕ) (e : work_in counts map queue predecessors route ≡ cleared w work) where
   pub clear_after : WorkClear (centres w) map queue predecessors route
@@ -31,11 +31,6 @@ module _ (w : Rect) (work : Work) (counts : List ℤ) (map queue predecessors ro
     predecessors_clear = ap (λ (x : Work). take (centres w) x.predecessors) e ∙ laid_clear (centres w) work.predecessors;
     route_clear = ap (λ (x : Work). take (centres w) x.route) e ∙ laid_clear (centres w) work.route;
   }
-
-  pub work_after : (map' queue' predecessors' route' : List ℕ) → WorkKept map queue predecessors route map' queue' predecessors' route'
-      → work_in counts map' queue' predecessors' route' ≡ cleared w work
-  work_after map' queue' predecessors' route' k =
-      (λ j. work_in counts (k.map_kept j) (k.queue_kept j) (k.predecessors_kept j) (k.route_kept j)) ∙ e
 
 pub stepped : (q : Query) (l : Limits) (groups numbers : List ℕ) (edges : List ℤ) (block_base allow_base : List ℕ) (steps : List ℤ) (r : Record) (n : ℕ) (work : Work) (a : Store)
     → first (step_checks (inputs_of q groups numbers edges block_base allow_base) l r work a) ≡ none → each_once (steps_of steps) ≡ true

@@ -14,10 +14,3 @@ pub record WorkClear (c : ℕ) (map queue predecessors route : List ℕ) : Type 
   pub queue_clear : take c queue ≡ replicate c 0
   pub predecessors_clear : take c predecessors ≡ replicate c 0
   pub route_clear : take c route ≡ replicate c 0
-
--- the areas are as they were
-pub record WorkKept (map queue predecessors route map' queue' predecessors' route' : List ℕ) : Type 0 where
-  pub map_kept : map' ≡ map
-  pub queue_kept : queue' ≡ queue
-  pub predecessors_kept : predecessors' ≡ predecessors
-  pub route_kept : route' ≡ route

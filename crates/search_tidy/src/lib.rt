@@ -70,6 +70,7 @@ pub fn clear_unused(query: Query, limits: Limits, rec: Record, store: &mut Store
     requires { PartsUsed query limits rec (store_of_areas store.old) }
     ensures back { (i : Inputs) → Passing i query limits rec (store_of_areas store.old)
         → LaidBack i limits rec (store_of_areas store.old) result (store_of_areas store.new) }
+    ensures sized { Sized rec }
     ensures same_store { SameStore store.old store.new }
 {
     clear_lists(store.lists, rec);

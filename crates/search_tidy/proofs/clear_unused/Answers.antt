@@ -15,3 +15,6 @@ returns-clause-back c =
       layouts_are = c.clear_rows-2.ensures;
       points_are = rw (c.points_length.ensures.0, c.kept_points-used.ensures) at c.clear_from.ensures;
     }) p)
+
+pub returns-clause-sized : goal.returns-clause-sized
+returns-clause-sized c = c.tidied.ensures.1
