@@ -7,79 +7,48 @@ ghost use Rattle.base_model.specs.Answers.{first, reply_of};
 ghost use Rattle.ground_rects.specs.Windows.{centres};
 ghost use Rattle.rule_routes.specs.Edges.{steps_of, each_once};
 ghost use Rattle.rule_layouts.specs.Inputs.{board_of};
-ghost use Rattle.rule_layouts.specs.Flat.{inputs_of};
 ghost use Rattle.rule_layouts.specs.Judge.{verdict, ground_left};
-ghost use Rattle.rule_calls.specs.Areas.{Work, work_in};
+ghost use Rattle.rule_calls.specs.Areas as areas;
 ghost use Rattle.rule_calls.specs.Calls.{judges, judgement_of, selection_fits, judge_checks, judge_over, judge_call};
+ghost use Rattle.set_places.specs.Given.{inputs_in};
 ghost use Rattle.call_lengths.specs.Lengths.{WorkHas};
+ghost use Rattle.call_lengths.specs.Lent.{work_of};
 ghost use Rattle.set_board.specs.Ready.{Blank};
 ghost use Rattle.call_judge.specs.Chosen.{Chosen, Clean, FourSame};
+ghost use Rattle.call_lengths.specs.Same.{SameWork};
 
-use base_model::{Answer, Judged, Query, Refusal, SLOTS};
-use call_lengths::WorkLengths;
+use base_model::{Judged, Refusal, SLOTS};
+use call_lengths::{Work, WorkLengths};
 use call_rows::members_fit;
 use route_table::table_fits;
 use set_ground::ground_left;
+use set_pass::Areas;
+use set_places::Given;
+use set_verdict::verdict;
 
 // Whether the selection ascends strictly, has at most 6 members and names some of n placements.
 fn selection_fits(selection: &[u16], n: usize) -> bool
     ensures { result ≡ selection_fits n selection.now }
 {
-    if selection.len() > SLOTS {
-        return false;
-    }
-    members_fit(selection, n)
+    selection.len() <= SLOTS && members_fit(selection, n)
 }
 
 // 10, 2, 3, 4, 6, 14, 15 and 17, for working areas of these lengths.
-fn judge_checks(
-    query: Query,
-    groups: &[u32],
-    numbers: &[u32],
-    edges: &[i32],
-    block_base: &[u8],
-    allow_base: &[u8],
-    selection: &[u16],
-    room: WorkLengths,
-) -> Answer
-    ensures { (w : Work) → WorkHas w room → reply_of result
-        ≡ first (judge_checks (inputs_of query groups.now numbers.now edges.now block_base.now
-        allow_base.now) selection.now w) }
+fn judge_checks(given: &Given<'_>, selection: &[u16], room: WorkLengths) -> Result<(), Refusal>
+    ensures { (w : areas.Work) → WorkHas w room → reply_of result ≡ first (judge_checks (inputs_in given.now) selection.now w) }
 {
-    let grouped = call_checks::check_groups(groups);
-    if let Answer::Refused(r) = grouped {
-        return Answer::Refused(r);
-    }
-    let framed = call_checks::check_query(query);
-    if let Answer::Refused(r) = framed {
-        return Answer::Refused(r);
-    }
-    let long = call_lengths::work_fits(query.window, room);
-    let spacious = call_checks::check_areas(query, block_base, allow_base, long);
-    if let Answer::Refused(r) = spacious {
-        return Answer::Refused(r);
-    }
-    let placed = call_checks::check_places(query.window, groups, numbers, edges);
-    if let Answer::Refused(r) = placed {
-        return Answer::Refused(r);
-    }
-    if !selection_fits(
-        selection,
-        call_checks::place_count(numbers.len(), edges.len()),
-    ) {
-        return Answer::Refused(Refusal::SelectionInvalid);
-    }
-    Answer::Done
+    let window = given.query.window;
+    call_checks::check_groups(given.places.groups)?;
+    call_checks::check_query(given.query)?;
+    call_checks::check_areas(given, call_lengths::work_fits(window, room))?;
+    call_checks::check_places(window, &given.places)?;
+    let count = call_checks::place_count(&given.places);
+    call_checks::ask(selection_fits(selection, count), Refusal::SelectionInvalid)
 }
 
 // The verdict on a selection, and the ground that it leaves. The areas are zero before and after.
 fn judged(
-    query: Query,
-    groups: &[u32],
-    numbers: &[u32],
-    edges: &[i32],
-    block_base: &[u8],
-    allow_base: &[u8],
+    given: &Given<'_>,
     steps: &[i32],
     selection: &[u16],
     map: &mut [u8],
@@ -87,87 +56,42 @@ fn judged(
     predecessors: &mut [u32],
     route: &mut [u32],
 ) -> Judged
-    requires chosen { Chosen query groups.now numbers.now edges.now block_base.now allow_base.now steps.now selection.now }
-    requires blank { Blank (centres query.window) map.old queue.old predecessors.old route.old }
-    ensures result_value { judgement_of result ≡ judges
-        (verdict
-        (board_of (steps_of steps.now)
-        (inputs_of query groups.now numbers.now edges.now block_base.now
-        allow_base.now))
-        selection.now)
-        (ground_left
-        (board_of (steps_of steps.now)
-        (inputs_of query groups.now numbers.now edges.now block_base.now
-        allow_base.now))
-        selection.now) }
-    ensures blank_2 { Blank (centres query.window) map.new queue.new predecessors.new
-        route.new }
+    requires chosen { Chosen given.now.query given.now.places.groups.now given.now.places.numbers.now given.now.places.edges.now
+        given.now.block_base.now given.now.allow_base.now steps.now selection.now }
+    requires blank { Blank (centres given.now.query.window) map.old queue.old predecessors.old route.old }
+    ensures verdict_value { result.verdict ≡ verdict (board_of (steps_of steps.now) (inputs_in given.now)) selection.now }
+    ensures ground_value { result.ground ≡ ground_left (board_of (steps_of steps.now) (inputs_in given.now)) selection.now }
+    ensures blank_2 { Blank (centres given.now.query.window) map.new queue.new predecessors.new route.new }
 {
-    let v = set_verdict::verdict(
-        query,
-        groups,
-        numbers,
-        edges,
-        block_base,
-        allow_base,
-        steps,
-        selection,
+    let mut areas = Areas {
         map,
         queue,
         predecessors,
         route,
-    );
-    let left = ground_left(
-        query,
-        edges,
-        block_base,
-        selection,
-        map,
-        queue,
-        predecessors,
-    );
-    Judged::Verdict(v, left)
+    };
+    let verdict = verdict(given, steps, selection, &mut areas);
+    let ground = ground_left(given, selection, &mut areas);
+    Judged { verdict, ground }
 }
 
-// The same in areas that may be longer than the window has centres.
-fn judged_in(
-    query: Query,
-    groups: &[u32],
-    numbers: &[u32],
-    edges: &[i32],
-    block_base: &[u8],
-    allow_base: &[u8],
-    steps: &[i32],
-    selection: &[u16],
-    map: &mut [u8],
-    queue: &mut [u32],
-    predecessors: &mut [u32],
-    route: &mut [u32],
-) -> Judged
-    requires chosen { Chosen query groups.now numbers.now edges.now block_base.now allow_base.now steps.now selection.now }
-    requires clean { Clean (centres query.window) map.old queue.old predecessors.old route.old }
-    ensures result_value { judgement_of result ≡ judges
-        (verdict
-        (board_of (steps_of steps.now)
-        (inputs_of query groups.now numbers.now edges.now block_base.now
-        allow_base.now))
-        selection.now)
-        (ground_left
-        (board_of (steps_of steps.now)
-        (inputs_of query groups.now numbers.now edges.now block_base.now
-        allow_base.now))
-        selection.now) }
-    ensures four_same { FourSame map.old queue.old predecessors.old route.old map.new
-        queue.new predecessors.new route.new }
+// The same in working areas that are cleared and may be longer than the window has centres.
+fn judged_in(given: &Given<'_>, steps: &[i32], selection: &[u16], work: &mut Work<'_>) -> Judged
+    requires chosen { Chosen given.now.query given.now.places.groups.now given.now.places.numbers.now given.now.places.edges.now
+        given.now.block_base.now given.now.allow_base.now steps.now selection.now }
+    requires clean { Clean (centres given.now.query.window) work.old.map.now work.old.queue.now work.old.predecessors.now
+        work.old.route.now }
+    ensures verdict_value { result.verdict ≡ verdict (board_of (steps_of steps.now) (inputs_in given.now)) selection.now }
+    ensures ground_value { result.ground ≡ ground_left (board_of (steps_of steps.now) (inputs_in given.now)) selection.now }
+    ensures same { work_of work.new ≡ work_of work.old }
+    ensures same_work { SameWork work.old work.new }
 {
-    let c = ground_rects::width(query.window) * ground_rects::height(query.window);
+    let c = call_lengths::centres(given.query.window);
+    let map = &mut *work.map;
+    let queue = &mut *work.queue;
+    let predecessors = &mut *work.predecessors;
+    let route = &mut *work.route;
     judged(
-        query,
-        groups,
-        numbers,
-        edges,
-        block_base,
-        allow_base,
+        given,
         steps,
         selection,
         &mut map[..c],
@@ -179,107 +103,36 @@ fn judged_in(
 
 // What `judge` does once the checks pass.
 fn judge_checked(
-    query: Query,
-    groups: &[u32],
-    numbers: &[u32],
-    edges: &[i32],
-    block_base: &[u8],
-    allow_base: &[u8],
+    given: &Given<'_>,
     steps: &[i32],
     selection: &[u16],
-    counts: &mut [i32],
-    map: &mut [u8],
-    queue: &mut [u32],
-    predecessors: &mut [u32],
-    route: &mut [u32],
+    work: &mut Work<'_>,
 ) -> Judged
-    requires route_value { first (judge_checks (inputs_of query groups.now numbers.now edges.now block_base.now allow_base.now)
-        selection.now (work_in counts.old map.old queue.old predecessors.old route.old)) ≡ none }
+    requires route_value { first (judge_checks (inputs_in given.now) selection.now (work_of work.old)) ≡ none }
     requires steps_value { each_once (steps_of steps.now) ≡ true }
-    ensures { judge_over (steps_of steps.now)
-        (inputs_of query groups.now numbers.now edges.now
-        block_base.now allow_base.now)
-        selection.now
-        (work_in counts.old map.old queue.old predecessors.old route.old)
-        ≡ record {
-          answer = judgement_of result;
-          work = work_in counts.new map.new queue.new predecessors.new route.new;
-        } }
+    ensures call { judge_over (steps_of steps.now) (inputs_in given.now) selection.now (work_of work.old)
+        ≡ record { answer = judges result.verdict result.ground; work = work_of work.new } }
+    ensures same_work { SameWork work.old work.new }
 {
-    let window = query.window;
-    call_clear::clear_work(window, counts, map, queue, predecessors, route);
-    judged_in(
-        query,
-        groups,
-        numbers,
-        edges,
-        block_base,
-        allow_base,
-        steps,
-        selection,
-        map,
-        queue,
-        predecessors,
-        route,
-    )
+    call_clear::clear_work(given.query.window, work);
+    judged_in(given, steps, selection, work)
 }
 
 // Judges a selection: the first verdict that holds, and the number of centres to which the blocked mover has a route from the start.
 // Refuses 19, 10, 2, 3, 4, 6, 14, 15 and 17, and then writes nothing. Accepted, it leaves the working areas zero up to their lengths.
 pub fn judge(
-    query: Query,
-    groups: &[u32],
-    numbers: &[u32],
-    edges: &[i32],
-    block_base: &[u8],
-    allow_base: &[u8],
+    given: &Given<'_>,
     steps: &[i32],
     selection: &[u16],
-    counts: &mut [i32],
-    map: &mut [u8],
-    queue: &mut [u32],
-    predecessors: &mut [u32],
-    route: &mut [u32],
-) -> Judged
-    ensures { judge_call steps.now
-        (inputs_of query groups.now numbers.now edges.now
-        block_base.now allow_base.now)
-        selection.now
-        (work_in counts.old map.old queue.old predecessors.old route.old)
-        ≡ record {
-          answer = judgement_of result;
-          work = work_in counts.new map.new queue.new predecessors.new route.new;
-        } }
+    work: &mut Work<'_>,
+) -> Result<Judged, Refusal>
+    ensures call { judge_call steps.now (inputs_in given.now) selection.now (work_of work.old)
+        ≡ record { answer = judgement_of result; work = work_of work.new } }
+    ensures same_work { SameWork work.old work.new }
 {
     if !table_fits(steps) {
-        return Judged::Refused(Refusal::StepsInvalid);
+        return Err(Refusal::StepsInvalid);
     }
-    let room = WorkLengths {
-        counts: counts.len(),
-        map: map.len(),
-        queue: queue.len(),
-        predecessors: predecessors.len(),
-        route: route.len(),
-    };
-    let checked = judge_checks(
-        query, groups, numbers, edges, block_base, allow_base, selection, room,
-    );
-    if let Answer::Refused(r) = checked {
-        return Judged::Refused(r);
-    }
-    judge_checked(
-        query,
-        groups,
-        numbers,
-        edges,
-        block_base,
-        allow_base,
-        steps,
-        selection,
-        counts,
-        map,
-        queue,
-        predecessors,
-        route,
-    )
+    judge_checks(given, selection, work.lengths())?;
+    Ok(judge_checked(given, steps, selection, work))
 }
