@@ -29,7 +29,7 @@ use Rattle.call_checks.proofs.Passed.{begun_found}
 use Rattle.call_checks.proofs.Placed.{places_whole}
 use Rattle.call_record.specs.Given.{ChecksFound}
 
--- working areas of these lengths
+-- areas of these lengths
 unfoldable pub some_work : WorkLengths → Work
 some_work k = work_in (replicate k.counts (pos 0)) (replicate k.map 0) (replicate k.queue 0) (replicate k.predecessors 0) (replicate k.route 0)
 
@@ -56,7 +56,7 @@ module _ (i : Inputs) (l : Limits) (r : Record) (w : Work) (a : Store) where
         first_stops (begin_checks i l w a ++ place_checks i) (ask 16 (record_fits i r a l) ∷ []) e (first_then (begin_checks i l w a) (place_checks i) b ∙ h)
 
     module _ (p : first (place_checks i) ≡ none) where
-      last : first (step_checks i l r w a) ≡ first (ask 16 (record_fits i r a l) ∷ [])
+      pub last : first (step_checks i l r w a) ≡ first (ask 16 (record_fits i r a l) ∷ [])
       unfolding step_checks
       last = first_then (begin_checks i l w a ++ place_checks i) (ask 16 (record_fits i r a l) ∷ []) (first_then (begin_checks i l w a) (place_checks i) b ∙ p)
 
@@ -89,23 +89,6 @@ record_asks q l groups numbers edges block_base allow_base w lists visited layou
       visited_long = z.visited;
       layouts_long = z.layouts;
     })
-
--- the answers of the parts, for the inputs of the call
-module _ (q : Query) (groups numbers : List ℕ) (edges : List ℤ) (block_base allow_base : List ℕ) (answer : Option Said) where
-  abbrev inputs : Inputs
-  inputs = inputs_of q groups numbers edges block_base allow_base
-
-  pub begins_as : (l : Limits) (places : ℕ) (work : WorkLengths) (store : StoreLengths)
-      → ((i : Inputs) (w : Work) (s : Store) → i.query ≡ q → i.groups ≡ groups → length i.places ≡ places → i.block_base ≡ block_base → i.allow_base ≡ allow_base
-      → WorkHas w work → StoreHas s store → answer ≡ first (begin_checks i l w s))
-      → places ≡ length (placements_of numbers edges) → (w : Work) → WorkHas w work → (a : Store) → StoreHas a store → answer ≡ first (begin_checks inputs l w a)
-  unfolding inputs_of
-  begins_as l places work store f e w h a k = f inputs w a refl refl (sym e) refl refl h k
-
-  pub places_as : ((i : Inputs) → i.query.window ≡ q.window → i.groups ≡ groups → i.places ≡ placements_of numbers edges → answer ≡ first (place_checks i))
-      → answer ≡ first (place_checks inputs)
-  unfolding inputs_of
-  places_as f = f inputs refl refl refl
 
 -- ---- the call, where its table fits
 module _ (table : List ℤ) (i : Inputs) (l : Limits) (r : Record) (n : ℕ) (w : Work) (a : Store) where

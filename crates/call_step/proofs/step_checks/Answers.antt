@@ -1,55 +1,50 @@
 -- `call_step::step_checks` meets its contract: the first part that refuses answers.
-use borrow.Author.Rules.{rules}
-use borrow.Author.Tests.{not-true, not-false}
 use mathlib.Core.Path.{refl, sym, ◌∙◌}
-use Rattle.base_model.specs.Answers.{said_of, reply_of}
+use Rattle.std.proofs.Common.{arith}
+use Rattle.std.proofs.lemmas.Grind.{common_steps}
+use Rattle.std.proofs.lemmas.Result.{err_from_is_err_and}
+use Rattle.base_model.specs.Answers.{ask, first, reply_of, said_of}
+use Rattle.rule_layouts.specs.Flat.{inputs_of}
+use Rattle.set_places.specs.Given.{inputs_in}
+use Rattle.call_lengths.specs.Lent.{kept_in}
 use Rattle.call_checks.proofs.Passed.{done_passes, refused_says}
-use Rattle.call_step.proofs.Answered.{some_work_lem, begin_stops, places_stop, record_stops, all_pass, record_asks, begins_as, places_as}
+use Rattle.call_step.proofs.Answered.{some_work_lem, begin_stops, places_stop, last, record_asks}
 use Rattle.call_step.proofs.step_checks.Goals as goal
 
-pub returns-in-Refused : goal.returns-in-Refused
+pub returns-in_err-begin_checks : goal.returns-in_err-begin_checks
 unfolding reply_of
-returns-in-Refused c = λ w h. sym
-    (begin_stops _ _ _ w _
-    (refused_says (begins_as _ _ _ _ _ _ _ _ _ _ _ c.begin_checks-begins.ensures
-    (c.place_count-places.ensures _ _ refl refl) w h _
-    (record { lists = refl; visited = refl; layouts = refl; points = refl })) c.in-Refused.is))
+returns-in_err-begin_checks c = λ w h.
+    let a = c.args in
+    let p = err_from_is_err_and c.from_residual.result c.from_residual.ensures.1 in
+    rw (p.1, p.2) (sym (begin_stops (inputs_in a.given.now) a.limits a.rec w (kept_in a.kept.now)
+    (refused_says (c.begin_checks.ensures w (kept_in a.kept.now) h c.lengths.ensures) c.in_err-begin_checks.was)))
 
-pub returns-in-Refused-placed : goal.returns-in-Refused-placed
-unfolding reply_of
-returns-in-Refused-placed c = λ w h. sym
-    (places_stop _ _ _ w _
-    (done_passes (begins_as _ _ _ _ _ _ _ _ _ _ _ c.begin_checks-begins.ensures
-    (c.place_count-places.ensures _ _ refl refl) w h _
-    (record { lists = refl; visited = refl; layouts = refl; points = refl })) c.in_default.is)
-    (refused_says (places_as _ _ _ _ _ _ _ c.check_places-placed.ensures) c.in-Refused-placed.is))
+pub returns-in_err-check_places : goal.returns-in_err-check_places
+unfolding reply_of inputs_of
+returns-in_err-check_places c = λ w h.
+    let a = c.args in
+    let i = inputs_in a.given.now in
+    let p = err_from_is_err_and c.from_residual-in_err-check_places.result c.from_residual-in_err-check_places.ensures.1 in
+    rw (p.1, p.2) (sym (places_stop i a.limits a.rec w (kept_in a.kept.now)
+    (done_passes (c.begin_checks.ensures w (kept_in a.kept.now) h c.lengths.ensures) c.in_ok-begin_checks.was)
+    (refused_says (c.check_places.ensures i refl refl refl) c.in_err-check_places.was)))
 
 pub record_fits-requires : goal.record_fits-requires
+unfolding inputs_of
 record_fits-requires c =
-    record_asks _ _ _ _ _ _ _ _ _ _ _ c.args.points.now
-    (done_passes (begins_as _ _ _ _ _ _ _ _ _ _ _ c.begin_checks-begins.ensures
-    (c.place_count-places.ensures _ _ refl refl) _ (some_work_lem _) _
-    (record { lists = refl; visited = refl; layouts = refl; points = refl })) c.in_default.is)
-    (done_passes (places_as _ _ _ _ _ _ _ c.check_places-placed.ensures) c.in_default-placed.is)
-
-pub returns-then-not-record_fits : goal.returns-then-not-record_fits
-unfolding reply_of said_of
-returns-then-not-record_fits c =
-    λ w h. sym (record_stops _ _ _ w _
-    (done_passes (begins_as _ _ _ _ _ _ _ _ _ _ _ c.begin_checks-begins.ensures
-    (c.place_count-places.ensures _ _ refl refl) w h _
-    (record { lists = refl; visited = refl; layouts = refl; points = refl })) c.in_default.is)
-    (done_passes (places_as _ _ _ _ _ _ _ c.check_places-placed.ensures)
-    c.in_default-placed.is)
-    (sym (c.record_fits.ensures _ _ _) ∙ c.if-not-record_fits.true))
+    let g = c.args.given.now in
+    let k = c.args.kept.now in
+    record_asks g.query c.args.limits g.places.groups.now g.places.numbers.now g.places.edges.now g.block_base.now g.allow_base.now _
+    k.lists.now k.visited.now k.layouts.now k.points.now
+    (done_passes (c.begin_checks.ensures _ (kept_in k) (some_work_lem c.args.work) c.lengths.ensures) c.in_ok-begin_checks.was)
+    (done_passes (c.check_places.ensures (inputs_in g) refl refl refl) c.in_ok-check_places.was)
 
 pub returns : goal.returns
-unfolding reply_of
-returns c =
-    λ w h. sym (all_pass _ _ _ w _
-    (done_passes (begins_as _ _ _ _ _ _ _ _ _ _ _ c.begin_checks-begins.ensures
-    (c.place_count-places.ensures _ _ refl refl) w h _
-    (record { lists = refl; visited = refl; layouts = refl; points = refl })) c.in_default.is)
-    (done_passes (places_as _ _ _ _ _ _ _ c.check_places-placed.ensures)
-    c.in_default-placed.is)
-    (sym (c.record_fits.ensures _ _ _) ∙ c.if-not-record_fits.false))
+unfolding reply_of said_of ask first inputs_of
+returns c = λ w h.
+    let a = c.args in
+    let i = inputs_in a.given.now in
+    let l = last i a.limits a.rec w (kept_in a.kept.now)
+    (done_passes (c.begin_checks.ensures w (kept_in a.kept.now) h c.lengths.ensures) c.in_ok-begin_checks.was)
+    (done_passes (c.check_places.ensures i refl refl refl) c.in_ok-check_places.was) in
+    rw l (grind (arith, common_steps, c.ask.ensures, c.record_fits.ensures))
