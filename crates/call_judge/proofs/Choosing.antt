@@ -8,9 +8,10 @@ use native.Mathlib.Omega.{arith}
 use lib.IntN.{ℤ}
 use lib.ListN.{length}
 use borrow.Author.Tests.{leb-true}
-use Rattle.base_model.specs.Answers.{Said, refusal, ask, first}
-use Rattle.base_model.proofs.Asking.{ask_passes, first_passes, first_holds, first_fails}
+use Rattle.base_model.specs.Answers.{Said, ask, first, reply_of, said_of}
+use Rattle.base_model.proofs.Asking.{ask_passes, first_passes}
 use Rattle.base_model.specs.declared.Rect.{Rect}
+use Rattle.base_model.specs.declared.Refusal.TheVariants.{SelectionInvalid}
 use Rattle.base_model.specs.Allow.{Allow}
 use Rattle.std.specs.Prelude.{None, Some}
 use Rattle.base_model.specs.declared.Query.{Query}
@@ -23,13 +24,13 @@ use Rattle.rule_calls.specs.Checks.{group_checks, place_checks}
 use Rattle.rule_calls.specs.Calls.{selection_fits, judge_checks}
 use Rattle.rule_calls.proofs.StepLaws.{first_both}
 use Rattle.rule_calls.proofs.Selected.{selected_is}
-use Rattle.call_checks.specs.Parts.{allow_small, allow_long, frames_of, frame_checks, areas_of, area_checks}
+use Rattle.call_checks.specs.Parts.{asked, allow_small, allow_long, frames_of, frame_checks, areas_of, area_checks}
 use Rattle.call_checks.proofs.Asked.{first_then, first_stops, query_parts}
 use Rattle.call_checks.proofs.Passed.{Framing, Spacious, frames_found, areas_found}
 use Rattle.call_checks.proofs.Placed.{places_whole}
 use Rattle.set_extend.specs.Join.{Rowed}
 use Rattle.set_blocked.specs.Blocked.{AllowReady}
-use Rattle.call_judge.specs.Chosen.{Chosen}
+use Rattle.set_board.specs.Ready.{Ready}
 
 -- ---- the checks, in parts
 module _ (i : Inputs) (s : List ℕ) (w : Work) where
@@ -67,13 +68,8 @@ module _ (i : Inputs) (s : List ℕ) (w : Work) where
         pub places_stop : {r : Said} → first (place_checks i) ≡ some r → first (judge_checks i s w) ≡ some r
         places_stop {r} e = after_areas ∙ first_stops (place_checks i) _ r e
 
-        module _ (p : first (place_checks i) ≡ none) (b : Bool) (e : b ≡ selection_fits (length i.places) s) where
-          pub selection_stops : b ≡ false → first (judge_checks i s w) ≡ some (refusal 17)
-          selection_stops f = after_areas ∙ first_then (place_checks i) _ p ∙ first_fails 17 _ [] (sym e ∙ f)
-
-          pub all_pass : b ≡ true → first (judge_checks i s w) ≡ none
-          unfolding first
-          all_pass t = after_areas ∙ first_then (place_checks i) _ p ∙ first_holds 17 _ [] (sym e ∙ t)
+        pub selection_last : first (place_checks i) ≡ none → first (judge_checks i s w) ≡ first last
+        selection_last p = after_areas ∙ first_then (place_checks i) _ p
 
   -- ---- what all of them find
   pub record Passed : Type 0 where
@@ -96,6 +92,11 @@ module _ (i : Inputs) (s : List ℕ) (w : Work) where
       }
 
 -- ---- the selection
+pub selection_told : (b : Bool) → reply_of (asked b SelectionInvalid) ≡ first (ask 17 b ∷ [])
+unfolding reply_of said_of ask first
+selection_told true = refl
+selection_told false = refl
+
 allow_ready : (w : Rect) (a : Allow) (base : List ℕ) → allow_small a ≡ true → allow_long (centres w) a (length base) ≡ true → AllowReady w a base
 unfolding allow_small allow_long AllowReady
 allow_ready w None base e f = tt
@@ -103,7 +104,7 @@ allow_ready w (Some m) base e f = (e, leb-true (centres w) (length base) f)
 
 pub chosen : (q : Query) (groups numbers : List ℕ) (edges : List ℤ) (block_base allow_base : List ℕ) (steps : List ℤ) (s : List ℕ) (w : Work)
     → first (judge_checks (inputs_of q groups numbers edges block_base allow_base) s w) ≡ none → each_once (steps_of steps) ≡ true
-    → Chosen q groups numbers edges block_base allow_base steps s
+    → Ready q groups numbers edges block_base allow_base steps s (length numbers / 4)
 unfolding inputs_of
 chosen q groups numbers edges block_base allow_base steps s w e once =
     let i = inputs_of q groups numbers edges block_base allow_base in

@@ -1,5 +1,5 @@
 -- What judging comes to, and the working areas that it leaves.
-use Prim.Native.Nat.{ℕ, ◌*◌, ◌/◌}
+use Prim.Native.Nat.{ℕ, ◌*◌}
 use mathlib.Core.Path.{◌≡◌, refl, sym, ap, ◌∙◌}
 use mathlib.Core.Option.{none, some}
 use mathlib.Core.List.{List}
@@ -8,6 +8,7 @@ use lib.ListN.{length, take}
 use Rattle.base_model.specs.Answers.{Said, first}
 use Rattle.base_model.specs.declared.Rect.{Rect}
 use Rattle.base_model.specs.declared.Query.{Query}
+use Rattle.base_model.specs.declared.Verdict.{Verdict}
 use Rattle.ground_rects.specs.Windows.{width, height, centres, centre_at}
 use Rattle.rule_routes.specs.Edges.{Step, window_edges}
 use Rattle.rule_routes.specs.Routes.{reach_count}
@@ -15,16 +16,13 @@ use Rattle.rule_layouts.specs.Boards.{Board, leaves_open}
 use Rattle.rule_layouts.specs.Inputs.{Inputs, board_of}
 use Rattle.rule_layouts.specs.Flat.{inputs_of}
 use Rattle.rule_layouts.specs.Judge.{verdict, ground_left}
-use Rattle.rule_calls.specs.Areas.{Work, work_in, cleared}
-use Rattle.rule_calls.specs.Calls.{Judgement, refuses, judges, judge_checks, judge_over}
+use Rattle.rule_calls.specs.Areas.{Work, cleared}
+use Rattle.rule_calls.specs.Calls.{refuses, judges, judge_checks, judge_over}
 use Rattle.rule_calls.proofs.Back.{laid_clear}
 use Rattle.set_blocked.specs.Blocked.{mover_in}
-use Rattle.set_board.specs.Ready.{Ready, Blank}
 use Rattle.set_board.specs.Board.{flat_board}
-use Rattle.set_board.proofs.Ready.{named_rows}
 use Rattle.set_board.proofs.FlatBoard.{flat_board_lem}
-use Rattle.set_ground.specs.Ground.{GroundLent}
-use Rattle.call_judge.specs.Chosen.{Chosen, Clean, FourSame}
+use Rattle.call_judge.specs.Clean.{Clean}
 
 -- ---- the answer
 module _ (steps : List Step) (i : Inputs) (s : List ℕ) (w : Work) where
@@ -32,38 +30,12 @@ module _ (steps : List Step) (i : Inputs) (s : List ℕ) (w : Work) where
   unfolding judge_over
   judge_refused h = rw (judge_over, h)
 
-  pub judge_accepted : first (judge_checks i s w) ≡ none → (j : Judgement) → j ≡ judges (verdict (board_of steps i) s) (ground_left (board_of steps i) s)
-      → (w' : Work) → w' ≡ cleared i.query.window w → judge_over steps i s w ≡ record { answer = j; work = w' }
+  pub judge_accepted : first (judge_checks i s w) ≡ none → {v : Verdict} {g : ℕ} {w' : Work} → v ≡ verdict (board_of steps i) s → g ≡ ground_left (board_of steps i) s
+      → w' ≡ cleared i.query.window w → judge_over steps i s w ≡ record { answer = judges v g; work = w' }
   unfolding judge_over
-  judge_accepted h j e w' f = rw (judge_over, h, e, f)
+  judge_accepted h d e f = rw (judge_over, h, d, e, f)
 
--- ---- what the verdict and the count ask
-pub ready : {q : Query} {groups numbers : List ℕ} {edges : List ℤ} {block_base allow_base : List ℕ} {steps : List ℤ} {set : List ℕ}
-    → Chosen q groups numbers edges block_base allow_base steps set → Ready q groups numbers edges block_base allow_base steps set (length numbers / 4)
-ready c = record {
-  fits = c.fits;
-  start_in = c.start_in;
-  end_in = c.end_in;
-  slim = c.slim;
-  bytes = c.bytes;
-  allowed = c.allowed;
-  rows = c.rows;
-  once = c.once;
-  rising = c.rising;
-}
-
-pub counted : {q : Query} {groups numbers : List ℕ} {edges : List ℤ} {block_base allow_base : List ℕ} {steps : List ℤ} {set map queue predecessors route : List ℕ}
-    → Chosen q groups numbers edges block_base allow_base steps set → Blank (centres q.window) map queue predecessors route
-    → GroundLent q edges block_base set map queue predecessors
-counted c b = record {
-  fits = c.fits;
-  start_in = c.start_in;
-  moving = record { slim = c.slim; bytes = c.bytes; named = named_rows c.rows };
-  map_clear = b.map_clear;
-  queue_clear = b.queue_clear;
-  predecessors_clear = b.predecessors_clear;
-}
-
+-- ---- the ground
 -- what is reached past a set, with placements lent flat, is the ground that it leaves
 pub ground_flat : (q : Query) (groups numbers : List ℕ) (edges : List ℤ) (block_base allow_base s : List ℕ) (steps : List Step) (n : ℕ) → length numbers ≡ 4 * n
     → length edges ≡ 8 * n
@@ -84,7 +56,3 @@ clean_work w a b e = record {
   predecessors_clear = ap (λ (x : Work). take (centres w) x.predecessors) e ∙ laid_clear (centres w) a.predecessors;
   route_clear = ap (λ (x : Work). take (centres w) x.route) e ∙ laid_clear (centres w) a.route;
 }
-
-pub same_work : {counts : List ℤ} {map queue predecessors route map' queue' predecessors' route' : List ℕ} → FourSame map queue predecessors route map' queue' predecessors' route'
-    → work_in counts map' queue' predecessors' route' ≡ work_in counts map queue predecessors route
-same_work {counts} s = λ j. record { counts = counts; map = s.map_same j; queue = s.queue_same j; predecessors = s.predecessors_same j; route = s.route_same j }

@@ -1,7 +1,7 @@
 // Judging a selection of placements.
 #![tactic(auto)]
 
-ghost use Rattle.std.specs.Prelude.{◌≡◌, true};
+ghost use Rattle.std.specs.Prelude.{◌≡◌, true, ◌/◌, length};
 ghost use Rattle.std.proofs.Math.Option.{none};
 ghost use Rattle.base_model.specs.Answers.{first, reply_of};
 ghost use Rattle.ground_rects.specs.Windows.{centres};
@@ -13,11 +13,12 @@ ghost use Rattle.rule_calls.specs.Calls.{judges, judgement_of, selection_fits, j
 ghost use Rattle.set_places.specs.Given.{inputs_in};
 ghost use Rattle.call_lengths.specs.Lengths.{WorkHas};
 ghost use Rattle.call_lengths.specs.Lent.{work_of};
-ghost use Rattle.set_board.specs.Ready.{Blank};
-ghost use Rattle.call_judge.specs.Chosen.{Chosen, Clean, FourSame};
+ghost use Rattle.set_board.specs.Ready.{ReadyFor, Blank};
+ghost use Rattle.call_judge.specs.Clean.{Clean};
 ghost use Rattle.call_lengths.specs.Same.{SameWork};
 
 use base_model::{Judged, Refusal, SLOTS};
+use call_checks::ask;
 use call_lengths::{Work, WorkLengths};
 use call_rows::members_fit;
 use route_table::table_fits;
@@ -27,6 +28,7 @@ use set_places::Given;
 use set_verdict::verdict;
 
 // Whether the selection ascends strictly, has at most 6 members and names some of n placements.
+#[tactic(auto, unfolding(rule_calls::specs::Calls::selection_fits))]
 fn selection_fits(selection: &[u16], n: usize) -> bool
     ensures { result ≡ selection_fits n selection.now }
 {
@@ -43,7 +45,7 @@ fn judge_checks(given: &Given<'_>, selection: &[u16], room: WorkLengths) -> Resu
     call_checks::check_areas(given, call_lengths::work_fits(window, room))?;
     call_checks::check_places(window, &given.places)?;
     let count = call_checks::place_count(&given.places);
-    call_checks::ask(selection_fits(selection, count), Refusal::SelectionInvalid)
+    ask(selection_fits(selection, count), Refusal::SelectionInvalid)
 }
 
 // The verdict on a selection, and the ground that it leaves. The areas are zero before and after.
@@ -56,8 +58,7 @@ fn judged(
     predecessors: &mut [u32],
     route: &mut [u32],
 ) -> Judged
-    requires chosen { Chosen given.now.query given.now.places.groups.now given.now.places.numbers.now given.now.places.edges.now
-        given.now.block_base.now given.now.allow_base.now steps.now selection.now }
+    requires ready { ReadyFor given.now steps.now selection.now (length given.now.places.numbers.now / 4) }
     requires blank { Blank (centres given.now.query.window) map.old queue.old predecessors.old route.old }
     ensures verdict_value { result.verdict ≡ verdict (board_of (steps_of steps.now) (inputs_in given.now)) selection.now }
     ensures ground_value { result.ground ≡ ground_left (board_of (steps_of steps.now) (inputs_in given.now)) selection.now }
@@ -76,8 +77,7 @@ fn judged(
 
 // The same in working areas that are cleared and may be longer than the window has centres.
 fn judged_in(given: &Given<'_>, steps: &[i32], selection: &[u16], work: &mut Work<'_>) -> Judged
-    requires chosen { Chosen given.now.query given.now.places.groups.now given.now.places.numbers.now given.now.places.edges.now
-        given.now.block_base.now given.now.allow_base.now steps.now selection.now }
+    requires ready { ReadyFor given.now steps.now selection.now (length given.now.places.numbers.now / 4) }
     requires clean { Clean (centres given.now.query.window) work.old.map.now work.old.queue.now work.old.predecessors.now
         work.old.route.now }
     ensures verdict_value { result.verdict ≡ verdict (board_of (steps_of steps.now) (inputs_in given.now)) selection.now }
@@ -102,12 +102,7 @@ fn judged_in(given: &Given<'_>, steps: &[i32], selection: &[u16], work: &mut Wor
 }
 
 // What `judge` does once the checks pass.
-fn judge_checked(
-    given: &Given<'_>,
-    steps: &[i32],
-    selection: &[u16],
-    work: &mut Work<'_>,
-) -> Judged
+fn judge_checked(given: &Given<'_>, steps: &[i32], selection: &[u16], work: &mut Work<'_>) -> Judged
     requires route_value { first (judge_checks (inputs_in given.now) selection.now (work_of work.old)) ≡ none }
     requires steps_value { each_once (steps_of steps.now) ≡ true }
     ensures call { judge_over (steps_of steps.now) (inputs_in given.now) selection.now (work_of work.old)
@@ -130,9 +125,7 @@ pub fn judge(
         ≡ record { answer = judgement_of result; work = work_of work.new } }
     ensures same_work { SameWork work.old work.new }
 {
-    if !table_fits(steps) {
-        return Err(Refusal::StepsInvalid);
-    }
+    ask(table_fits(steps), Refusal::StepsInvalid)?;
     judge_checks(given, selection, work.lengths())?;
     Ok(judge_checked(given, steps, selection, work))
 }

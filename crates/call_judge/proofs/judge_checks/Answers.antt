@@ -1,98 +1,70 @@
 -- `call_judge::judge_checks` meets its contract: the first part that refuses answers.
 use mathlib.Core.Path.{refl, sym, ap, ◌∙◌}
 use mathlib.Core.Bool.{Bool}
+use mathlib.Core.List.{[], ◌∷◌}
 use Prim.Native.Nat.{ℕ}
-use Rattle.base_model.specs.Answers.{first, reply_of, said_of}
+use Rattle.std.proofs.lemmas.Result.{err_from_is_err_and}
+use Rattle.base_model.specs.Answers.{ask, first, reply_of}
 use Rattle.rule_layouts.specs.Flat.{inputs_of}
 use Rattle.rule_calls.specs.Calls.{selection_fits}
+use Rattle.set_places.specs.Given.{inputs_in}
 use Rattle.call_checks.specs.Parts.{area_checks}
 use Rattle.call_checks.proofs.Passed.{done_passes, refused_says, frames_found}
-use Rattle.call_judge.proofs.Choosing.{groups_stop, frames_stop, areas_stop, places_stop, selection_stops, all_pass}
+use Rattle.call_judge.proofs.Choosing.{groups_stop, frames_stop, areas_stop, places_stop, selection_last, selection_told}
 use Rattle.call_judge.proofs.judge_checks.Goals as goal
 
-pub returns-in-Refused : goal.returns-in-Refused
-unfolding inputs_of reply_of
-returns-in-Refused c =
-    let a = c.args in
-    let i = inputs_of a.query a.groups.now a.numbers.now a.edges.now a.block_base.now a.allow_base.now in
-    λ w h. sym (groups_stop i a.selection.now w (refused_says (c.check_groups-grouped.ensures i refl) c.in-Refused.is))
+pub returns-in_err-check_groups : goal.returns-in_err-check_groups
+unfolding reply_of inputs_of
+returns-in_err-check_groups c = λ w h.
+    let i = inputs_in c.args.given.now in
+    let p = err_from_is_err_and c.from_residual.result c.from_residual.ensures.1 in
+    rw (p.1, p.2) (sym (groups_stop i c.args.selection.now w (refused_says (c.check_groups.ensures i refl) c.in_err-check_groups.was)))
 
-pub returns-in-Refused-framed : goal.returns-in-Refused-framed
-unfolding inputs_of reply_of
-returns-in-Refused-framed c =
-    let a = c.args in
-    let i = inputs_of a.query a.groups.now a.numbers.now a.edges.now a.block_base.now a.allow_base.now in
-    λ w h. sym (frames_stop i a.selection.now w
-    (done_passes (c.check_groups-grouped.ensures i refl) c.in_default.is)
-    (refused_says (c.check_query-framed.ensures i refl) c.in-Refused-framed.is))
+pub returns-in_err-check_query : goal.returns-in_err-check_query
+unfolding reply_of inputs_of
+returns-in_err-check_query c = λ w h.
+    let i = inputs_in c.args.given.now in
+    let p = err_from_is_err_and c.from_residual-in_err-check_query.result c.from_residual-in_err-check_query.ensures.1 in
+    rw (p.1, p.2) (sym (frames_stop i c.args.selection.now w (done_passes (c.check_groups.ensures i refl) c.in_ok-check_groups.was)
+    (refused_says (c.check_query.ensures i refl) c.in_err-check_query.was)))
 
-pub work_fits-long-requires : goal.work_fits-long-requires
+pub work_fits-requires : goal.work_fits-requires
 unfolding inputs_of
-work_fits-long-requires c =
-    let a = c.args in
-    let i = inputs_of a.query a.groups.now a.numbers.now a.edges.now a.block_base.now a.allow_base.now in
-    (frames_found i (done_passes (c.check_query-framed.ensures i refl) c.in_default-framed.is)).window
+work_fits-requires c =
+    (frames_found (inputs_in c.args.given.now) (done_passes (c.check_query.ensures (inputs_in c.args.given.now) refl) c.in_ok-check_query.was)).window
 
-pub check_areas-spacious-requires : goal.check_areas-spacious-requires
+pub check_areas-requires : goal.check_areas-requires
 unfolding inputs_of
-check_areas-spacious-requires c =
-    let a = c.args in
-    let i = inputs_of a.query a.groups.now a.numbers.now a.edges.now a.block_base.now a.allow_base.now in
-    (frames_found i (done_passes (c.check_query-framed.ensures i refl) c.in_default-framed.is)).window
+check_areas-requires c =
+    (frames_found (inputs_in c.args.given.now) (done_passes (c.check_query.ensures (inputs_in c.args.given.now) refl) c.in_ok-check_query.was)).window
 
-pub returns-in-Refused-spacious : goal.returns-in-Refused-spacious
-unfolding inputs_of reply_of
-returns-in-Refused-spacious c =
-    let a = c.args in
-    let i = inputs_of a.query a.groups.now a.numbers.now a.edges.now a.block_base.now a.allow_base.now in
-    λ w h. sym (areas_stop i a.selection.now w
-    (done_passes (c.check_groups-grouped.ensures i refl) c.in_default.is)
-    (done_passes (c.check_query-framed.ensures i refl) c.in_default-framed.is)
-    (refused_says (c.check_areas-spacious.ensures i refl refl refl
-    ∙ ap (λ (x : Bool). first (area_checks i x)) (c.work_fits-long.ensures w h))
-    c.in-Refused-spacious.is))
+pub returns-in_err-check_areas : goal.returns-in_err-check_areas
+unfolding reply_of inputs_of
+returns-in_err-check_areas c = λ w h.
+    let i = inputs_in c.args.given.now in
+    let p = err_from_is_err_and c.from_residual-in_err-check_areas.result c.from_residual-in_err-check_areas.ensures.1 in
+    rw (p.1, p.2) (sym (areas_stop i c.args.selection.now w (done_passes (c.check_groups.ensures i refl) c.in_ok-check_groups.was)
+    (done_passes (c.check_query.ensures i refl) c.in_ok-check_query.was)
+    (refused_says (c.check_areas.ensures i refl refl refl ∙ ap (λ (x : Bool). first (area_checks i x)) (c.work_fits.ensures w h)) c.in_err-check_areas.was)))
 
-pub returns-in-Refused-placed : goal.returns-in-Refused-placed
-unfolding inputs_of reply_of
-returns-in-Refused-placed c =
-    let a = c.args in
-    let i = inputs_of a.query a.groups.now a.numbers.now a.edges.now a.block_base.now a.allow_base.now in
-    λ w h. sym (places_stop i a.selection.now w
-    (done_passes (c.check_groups-grouped.ensures i refl) c.in_default.is)
-    (done_passes (c.check_query-framed.ensures i refl) c.in_default-framed.is)
-    (done_passes (c.check_areas-spacious.ensures i refl refl refl
-    ∙ ap (λ (x : Bool). first (area_checks i x)) (c.work_fits-long.ensures w h))
-    c.in_default-spacious.is)
-    (refused_says (c.check_places-placed.ensures i refl refl refl) c.in-Refused-placed.is))
-
-pub returns-then-not-selection_fits : goal.returns-then-not-selection_fits
-unfolding inputs_of reply_of said_of
-returns-then-not-selection_fits c =
-    let a = c.args in
-    let i = inputs_of a.query a.groups.now a.numbers.now a.edges.now a.block_base.now a.allow_base.now in
-    λ w h. sym (selection_stops i a.selection.now w
-    (done_passes (c.check_groups-grouped.ensures i refl) c.in_default.is)
-    (done_passes (c.check_query-framed.ensures i refl) c.in_default-framed.is)
-    (done_passes (c.check_areas-spacious.ensures i refl refl refl ∙ ap (λ (x : Bool). first (area_checks i x)) (c.work_fits-long.ensures w h)) c.in_default-spacious.is)
-    (done_passes (c.check_places-placed.ensures i refl refl refl) c.in_default-placed.is)
-    c.selection_fits.result
-    (c.selection_fits.ensures
-    ∙ ap (λ (n : ℕ). selection_fits n a.selection.now)
-    (c.place_count.ensures a.numbers.now a.edges.now refl refl))
-    (c.if-not-selection_fits.true))
+pub returns-in_err-check_places : goal.returns-in_err-check_places
+unfolding reply_of inputs_of
+returns-in_err-check_places c = λ w h.
+    let i = inputs_in c.args.given.now in
+    let p = err_from_is_err_and c.from_residual-in_err-check_places.result c.from_residual-in_err-check_places.ensures.1 in
+    rw (p.1, p.2) (sym (places_stop i c.args.selection.now w (done_passes (c.check_groups.ensures i refl) c.in_ok-check_groups.was)
+    (done_passes (c.check_query.ensures i refl) c.in_ok-check_query.was)
+    (done_passes (c.check_areas.ensures i refl refl refl ∙ ap (λ (x : Bool). first (area_checks i x)) (c.work_fits.ensures w h)) c.in_ok-check_areas.was)
+    (refused_says (c.check_places.ensures i refl refl refl) c.in_err-check_places.was)))
 
 pub returns : goal.returns
-unfolding inputs_of reply_of
-returns c =
-    let a = c.args in
-    let i = inputs_of a.query a.groups.now a.numbers.now a.edges.now a.block_base.now a.allow_base.now in
-    λ w h. sym (all_pass i a.selection.now w
-    (done_passes (c.check_groups-grouped.ensures i refl) c.in_default.is)
-    (done_passes (c.check_query-framed.ensures i refl) c.in_default-framed.is)
-    (done_passes (c.check_areas-spacious.ensures i refl refl refl ∙ ap (λ (x : Bool). first (area_checks i x)) (c.work_fits-long.ensures w h)) c.in_default-spacious.is)
-    (done_passes (c.check_places-placed.ensures i refl refl refl) c.in_default-placed.is)
-    c.selection_fits.result
-    (c.selection_fits.ensures
-    ∙ ap (λ (n : ℕ). selection_fits n a.selection.now)
-    (c.place_count.ensures a.numbers.now a.edges.now refl refl))
-    (c.if-not-selection_fits.false))
+unfolding inputs_of
+returns c = λ w h.
+    let i = inputs_in c.args.given.now in
+    let s = c.args.selection.now in
+    let fits = c.selection_fits.ensures ∙ ap (λ (n : ℕ). selection_fits n s) c.place_count-count.ensures in
+    ap reply_of c.ask.ensures ∙ selection_told c.selection_fits.result ∙ ap (λ (b : Bool). first (ask 17 b ∷ [])) fits
+    ∙ sym (selection_last i s w (done_passes (c.check_groups.ensures i refl) c.in_ok-check_groups.was)
+    (done_passes (c.check_query.ensures i refl) c.in_ok-check_query.was)
+    (done_passes (c.check_areas.ensures i refl refl refl ∙ ap (λ (x : Bool). first (area_checks i x)) (c.work_fits.ensures w h)) c.in_ok-check_areas.was)
+    (done_passes (c.check_places.ensures i refl refl refl) c.in_ok-check_places.was))
