@@ -1,126 +1,82 @@
 // The call begin (RULES 7.4), the placements lent as a row of records.
 #![tactic(auto)]
 
-ghost use Rattle.std.specs.Prelude.{◌≡◌, List, length};
+ghost use Rattle.std.specs.Prelude.{◌≡◌};
 ghost use Rattle.base_model.specs.Answers.{reply_of};
-ghost use Rattle.base_model.specs.declared.Placement.{Placement};
-ghost use Rattle.rule_calls.specs.Areas.{work_in, store_in};
-ghost use Rattle.rule_calls.specs.Calls.{begin_call};
-ghost use Rattle.walls_rows.specs.Rows.{rows_of};
-ghost use Rattle.walls_lent.specs.Given.{given};
+ghost use Rattle.rule_calls.specs.Areas.{store_in};
+ghost use Rattle.rule_calls.specs.Calls.{begin_call, no_record, record_or};
+ghost use Rattle.set_places.specs.Given.{inputs_in};
+ghost use Rattle.call_lengths.specs.Lent.{work_of, store_of_areas};
+ghost use Rattle.walls_lent.specs.Plans.{given_in};
+ghost use Rattle.call_lengths.specs.Same.{SameWork, SameStore};
 
-use base_model::{EDGES, Limits, NUMBERS, Placement, Query, Reply};
+use base_model::{Limits, Record, Refusal};
+use call_lengths::{Store, Work};
+use set_places::Given;
 use walls_flat::rows_of;
-use walls_lent::lists_lent;
-use walls_rows::{Rows, at_most};
+use walls_lent::{Plan, lists_lent};
 
-// Begins a search over the placements laid flat.
-fn begin_core(
-    query: Query,
+// Begins a search over the placements laid flat, in the parts of the areas that are lent on.
+fn begin_flat(
+    given: &Given<'_>,
     limits: Limits,
-    groups: &[u32],
-    rows: Rows,
-    count: usize,
-    block_base: &[u8],
-    allow_base: &[u8],
     steps: &[i32],
-    counts: &mut [i32],
-    map: &mut [u8],
-    queue: &mut [u32],
-    predecessors: &mut [u32],
-    route: &mut [u32],
+    work: &mut Work<'_>,
     lists: &mut [u16],
     visited: &mut [u16],
     layouts: &mut [u16],
     points: &mut [u32],
-) -> Reply
-    ensures { (ps : List Placement) → rows ≡ rows_of ps → count ≡ length ps
-        → begin_call steps.now
-        (given query groups.now ps block_base.now allow_base.now)
-        limits
-        (work_in counts.old map.old queue.old predecessors.old route.old)
+) -> Result<Record, Refusal>
+    ensures call { begin_call steps.now (inputs_in given.now) limits (work_of work.old)
         (store_in lists.old visited.old layouts.old points.old)
         ≡ record {
-          answer = reply_of result.answer;
-          rec = result.rec;
-          work = work_in counts.new map.new queue.new predecessors.new route.new;
+          answer = reply_of result;
+          rec = record_or no_record result;
+          work = work_of work.new;
           store = store_in lists.new visited.new layouts.new points.new;
         } }
+    ensures same_work { SameWork work.old work.new }
 {
-    let laid = at_most(count);
-    let part = lists_lent(lists.len(), count);
-    let numbers = rows.numbers;
-    let edges = rows.edges;
-    let fours = NUMBERS * laid;
-    let eights = EDGES * laid;
-    call_begin::begin(
-        query,
-        limits,
-        groups,
-        &numbers[..fours],
-        &edges[..eights],
-        block_base,
-        allow_base,
-        steps,
-        counts,
-        map,
-        queue,
-        predecessors,
-        route,
-        &mut lists[..part],
+    let mut store = Store {
+        lists,
         visited,
         layouts,
         points,
-    )
+    };
+    call_begin::begin(given, limits, steps, work, &mut store)
 }
 
-// Begins a search: the record is handed back, all zero on refusal.
+// Begins a search and hands its record back.
 pub fn begin(
-    query: Query,
+    plan: &Plan<'_>,
     limits: Limits,
-    groups: &[u32],
-    places: &[Placement],
-    block_base: &[u8],
-    allow_base: &[u8],
     steps: &[i32],
-    counts: &mut [i32],
-    map: &mut [u8],
-    queue: &mut [u32],
-    predecessors: &mut [u32],
-    route: &mut [u32],
-    lists: &mut [u16],
-    visited: &mut [u16],
-    layouts: &mut [u16],
-    points: &mut [u32],
-) -> Reply
-    ensures { begin_call steps.now
-        (given query groups.now places.now block_base.now allow_base.now)
-        limits
-        (work_in counts.old map.old queue.old predecessors.old route.old)
-        (store_in lists.old visited.old layouts.old points.old)
+    work: &mut Work<'_>,
+    store: &mut Store<'_>,
+) -> Result<Record, Refusal>
+    ensures call { begin_call steps.now (given_in plan.now) limits (work_of work.old) (store_of_areas store.old)
         ≡ record {
-          answer = reply_of result.answer;
-          rec = result.rec;
-          work = work_in counts.new map.new queue.new predecessors.new route.new;
-          store = store_in lists.new visited.new layouts.new points.new;
+          answer = reply_of result;
+          rec = record_or no_record result;
+          work = work_of work.new;
+          store = store_of_areas store.new;
         } }
+    ensures same_work { SameWork work.old work.new }
+    ensures same_store { SameStore store.old store.new }
 {
-    let rows = rows_of(places);
-    begin_core(
-        query,
+    let rows = rows_of(plan.places);
+    let given = plan.flat(&rows);
+    let part = lists_lent(store.lists.len(), plan.places.len());
+    let lists = &mut *store.lists;
+    let visited = &mut *store.visited;
+    let layouts = &mut *store.layouts;
+    let points = &mut *store.points;
+    begin_flat(
+        &given,
         limits,
-        groups,
-        rows,
-        places.len(),
-        block_base,
-        allow_base,
         steps,
-        counts,
-        map,
-        queue,
-        predecessors,
-        route,
-        lists,
+        work,
+        &mut lists[..part],
         visited,
         layouts,
         points,

@@ -22,11 +22,11 @@ pub struct Plan<'a> {
     pub allow_base: &'a [u8],
 }
 
-impl Plan<'_> {
+impl<'a> Plan<'a> {
     // What the calls over flat placements are given: the first 6,145 placements at most, out of the rows that they were laid into.
-    pub fn flat<'a>(&'a self, rows: &'a Rows) -> Given<'a>
-        requires { rows.now ≡ rows_of self.now.places.now }
-        ensures { inputs_in result ≡ laid_in self.now }
+    pub fn flat(self, rows: &'a Rows) -> Given<'a>
+        requires { rows.now ≡ rows_of self.places.now }
+        ensures { inputs_in result ≡ laid_in self.entry }
     {
         let laid = at_most(self.places.len());
         let fours = NUMBERS * laid;

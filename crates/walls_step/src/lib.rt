@@ -1,138 +1,96 @@
 // The call step (RULES 7.5), the placements lent as a row of records, the search record lent.
 #![tactic(auto)]
 
-ghost use Rattle.std.specs.Prelude.{◌≡◌, List, length};
+ghost use Rattle.std.specs.Prelude.{◌≡◌};
 ghost use Rattle.base_model.specs.Answers.{reply_of};
-ghost use Rattle.base_model.specs.declared.Placement.{Placement};
-ghost use Rattle.rule_calls.specs.Areas.{work_in, store_in};
-ghost use Rattle.rule_calls.specs.Calls.{step_call};
-ghost use Rattle.walls_rows.specs.Rows.{rows_of};
-ghost use Rattle.walls_lent.specs.Given.{given};
+ghost use Rattle.rule_calls.specs.Areas.{store_in};
+ghost use Rattle.rule_calls.specs.Calls.{step_call, record_or};
+ghost use Rattle.set_places.specs.Given.{inputs_in};
+ghost use Rattle.call_lengths.specs.Lent.{work_of, store_of_areas};
+ghost use Rattle.walls_lent.specs.Plans.{given_in};
+ghost use Rattle.call_lengths.specs.Same.{SameWork, SameStore};
 
-use base_model::{Answer, EDGES, Limits, NUMBERS, Placement, Query, Record, Reply};
+use base_model::{Limits, Record, Refusal};
+use call_lengths::{Store, Work};
+use set_places::Given;
 use walls_flat::rows_of;
-use walls_lent::lists_lent;
-use walls_rows::{Rows, at_most};
+use walls_lent::{Plan, lists_lent};
 
-// Steps over the placements laid flat, the search record by value.
-fn step_core(
-    query: Query,
+// Steps over the placements laid flat, in the parts of the areas that are lent on, the search record by value.
+fn step_flat(
+    given: &Given<'_>,
     limits: Limits,
-    groups: &[u32],
-    rows: Rows,
-    count: usize,
-    block_base: &[u8],
-    allow_base: &[u8],
     steps: &[i32],
     rec: Record,
     n: u32,
-    counts: &mut [i32],
-    map: &mut [u8],
-    queue: &mut [u32],
-    predecessors: &mut [u32],
-    route: &mut [u32],
+    work: &mut Work<'_>,
     lists: &mut [u16],
     visited: &mut [u16],
     layouts: &mut [u16],
     points: &mut [u32],
-) -> Reply
-    ensures { (ps : List Placement) → rows ≡ rows_of ps → count ≡ length ps
-        → step_call steps.now
-        (given query groups.now ps block_base.now allow_base.now)
-        limits rec n
-        (work_in counts.old map.old queue.old predecessors.old route.old)
-        (store_in lists.old visited.old layouts.old points.old)
-        ≡ record {
-          answer = reply_of result.answer;
-          rec = result.rec;
-          work = work_in counts.new map.new queue.new predecessors.new route.new;
-          store = store_in lists.new visited.new layouts.new points.new;
-        } }
-{
-    let laid = at_most(count);
-    let part = lists_lent(lists.len(), count);
-    let numbers = rows.numbers;
-    let edges = rows.edges;
-    let fours = NUMBERS * laid;
-    let eights = EDGES * laid;
-    call_step::step(
-        query,
-        limits,
-        groups,
-        &numbers[..fours],
-        &edges[..eights],
-        block_base,
-        allow_base,
-        steps,
-        rec,
-        n,
-        counts,
-        map,
-        queue,
-        predecessors,
-        route,
-        &mut lists[..part],
-        visited,
-        layouts,
-        points,
-    )
-}
-
-// Evaluates n sets more, or stops. The search record is altered here alone.
-pub fn step(
-    query: Query,
-    limits: Limits,
-    groups: &[u32],
-    places: &[Placement],
-    block_base: &[u8],
-    allow_base: &[u8],
-    steps: &[i32],
-    rec: &mut Record,
-    n: u32,
-    counts: &mut [i32],
-    map: &mut [u8],
-    queue: &mut [u32],
-    predecessors: &mut [u32],
-    route: &mut [u32],
-    lists: &mut [u16],
-    visited: &mut [u16],
-    layouts: &mut [u16],
-    points: &mut [u32],
-) -> Answer
-    ensures { step_call steps.now
-        (given query groups.now places.now block_base.now allow_base.now)
-        limits rec.old n
-        (work_in counts.old map.old queue.old predecessors.old route.old)
+) -> Result<Record, Refusal>
+    ensures call { step_call steps.now (inputs_in given.now) limits rec n (work_of work.old)
         (store_in lists.old visited.old layouts.old points.old)
         ≡ record {
           answer = reply_of result;
-          rec = rec.new;
-          work = work_in counts.new map.new queue.new predecessors.new route.new;
+          rec = record_or rec result;
+          work = work_of work.new;
           store = store_in lists.new visited.new layouts.new points.new;
         } }
+    ensures same_work { SameWork work.old work.new }
 {
-    let rows = rows_of(places);
-    let out = step_core(
-        query,
-        limits,
-        groups,
-        rows,
-        places.len(),
-        block_base,
-        allow_base,
-        steps,
-        *rec,
-        n,
-        counts,
-        map,
-        queue,
-        predecessors,
-        route,
+    let mut store = Store {
         lists,
         visited,
         layouts,
         points,
-    );
-    *rec = out.rec;
-    out.answer
+    };
+    call_step::step(given, limits, steps, rec, n, work, &mut store)
+}
+
+// Evaluates n sets more, or stops. The search record is altered here alone.
+pub fn step(
+    plan: &Plan<'_>,
+    limits: Limits,
+    steps: &[i32],
+    rec: &mut Record,
+    n: u32,
+    work: &mut Work<'_>,
+    store: &mut Store<'_>,
+) -> Result<(), Refusal>
+    ensures call { step_call steps.now (given_in plan.now) limits rec.old n (work_of work.old) (store_of_areas store.old)
+        ≡ record {
+          answer = reply_of result;
+          rec = rec.new;
+          work = work_of work.new;
+          store = store_of_areas store.new;
+        } }
+    ensures same_work { SameWork work.old work.new }
+    ensures same_store { SameStore store.old store.new }
+{
+    let rows = rows_of(plan.places);
+    let given = plan.flat(&rows);
+    let part = lists_lent(store.lists.len(), plan.places.len());
+    let lists = &mut *store.lists;
+    let visited = &mut *store.visited;
+    let layouts = &mut *store.layouts;
+    let points = &mut *store.points;
+    match step_flat(
+        &given,
+        limits,
+        steps,
+        *rec,
+        n,
+        work,
+        &mut lists[..part],
+        visited,
+        layouts,
+        points,
+    ) {
+        Ok(after) => {
+            *rec = after;
+            Ok(())
+        }
+        Err(refusal) => Err(refusal),
+    }
 }

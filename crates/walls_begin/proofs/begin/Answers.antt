@@ -1,6 +1,24 @@
--- `walls_begin::begin` meets its contract: `rows_of` lays the placements flat, and `begin_core` is called.
-use mathlib.Core.Path.{refl}
+-- `walls_begin::begin` meets its contract: the placements that are laid flat are those of the row, and too many of them are too many either way.
+use mathlib.Core.Path.{sym}
+use lib.ListN.{length}
+use lib.Seq.{length-take-le}
+use Rattle.call_lengths.specs.Lent.{work_of}
+use Rattle.walls_lent.proofs.Cut.{joined, part_le}
+use Rattle.walls_lent.proofs.Lent.{begin_lent}
 use Rattle.walls_begin.proofs.begin.Goals as goal
 
-pub returns : goal.returns
-returns c = c.begin_core.ensures c.args.places.now c.rows_of-rows.ensures refl
+pub slice_bounds-begin_flat-end : goal.slice_bounds-begin_flat-end
+slice_bounds-begin_flat-end c = part_le c.args.store.now.lists.now (length c.args.plan.now.places.now) c.lists_lent-part.ensures
+
+pub slice_bounds-begin_flat-end-2 : goal.slice_bounds-begin_flat-end-2
+slice_bounds-begin_flat-end-2 c =
+    sym (length-take-le c.lists_lent-part.result c.args.store.now.lists.now (part_le c.args.store.now.lists.now (length c.args.plan.now.places.now) c.lists_lent-part.ensures))
+
+pub returns-clause-call : goal.returns-clause-call
+unfolding joined
+returns-clause-call c =
+    let p = c.args.plan.now in
+    let s = c.args.store.now in
+    begin_lent p.query p.groups.now p.block_base.now p.allow_base.now p.places.now _ c.flat-given.ensures
+    s.lists.now s.visited.now s.layouts.now s.points.now c.lists_lent-part.result c.lists_lent-part.ensures
+    c.args.limits c.args.steps.now (work_of c.args.work.now) _ c.begin_flat.ensures.call

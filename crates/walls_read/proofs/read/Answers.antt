@@ -1,6 +1,20 @@
--- `walls_read::read` meets its contract: `rows_of` lays the placements flat, and `read_core` is called.
-use mathlib.Core.Path.{refl}
+-- `walls_read::read` meets its contract: the placements that are laid flat are those of the row, and too many of them are too many either way.
+use mathlib.Core.Path.{sym, ◌∙◌}
+use lib.ListN.{length}
+use lib.Seq.{length-take-le}
+use Rattle.walls_lent.proofs.Cut.{part_le}
+use Rattle.walls_lent.proofs.Lent.{read_lent}
 use Rattle.walls_read.proofs.read.Goals as goal
 
+pub slice_bounds-lent-end : goal.slice_bounds-lent-end
+slice_bounds-lent-end c =
+    sym (length-take-le c.lists_lent-part.result c.args.kept.now.lists.now
+    (part_le c.args.kept.now.lists.now (length c.args.plan.now.places.now) c.lists_lent-part.ensures))
+
 pub returns : goal.returns
-returns c = c.read_core.ensures c.args.places.now c.rows_of-rows.ensures refl
+returns c =
+    let p = c.args.plan.now in
+    let s = c.args.kept.now in
+    read_lent p.query p.groups.now p.block_base.now p.allow_base.now p.places.now _ c.flat-given.ensures
+    s.lists.now s.visited.now s.layouts.now s.points.now c.lists_lent-part.result c.lists_lent-part.ensures
+    c.args.limits c.args.rec c.args.k ∙ c.read.ensures
