@@ -4,11 +4,11 @@
 
 ghost use Rattle.std.specs.Prelude.{◌≡◌, ℕ, ◌≤◌, length, List, ◌∷◌};
 ghost use Rattle.call_lengths.specs.Lent.{work_of};
+ghost use Rattle.call_prepare.specs.Prepare.{preparation_in};
 ghost use Rattle.sheet_texts.specs.Parts.{enough, Front};
 ghost use Rattle.sheet_form.specs.Sheets.{Sheet};
 ghost use Rattle.sheet_rule.specs.Drive.{bounds_of, allow_text};
-ghost use Rattle.sheet_allowed.specs.Inner.{FlatAs};
-ghost use Rattle.sheet_allowed.specs.Asked.{asked_of};
+ghost use Rattle.sheet_allowed.specs.Inner.{FlatAs, asked_of};
 
 use base_model::{Bounds, Limits, Query};
 use call_lengths::Work;
@@ -31,7 +31,7 @@ pub struct FlatSheet<'a> {
 impl FlatSheet<'_> {
     // What preparing a mover of the sheet is asked.
     pub fn preparing<'a>(&'a self, mover: Bounds) -> Preparing<'a>
-        ensures { result ≡ asked_of self.now mover }
+        ensures { preparation_in result ≡ asked_of self.now mover }
     {
         Preparing {
             across: self.across,
@@ -64,7 +64,12 @@ pub fn allowed(
         out.old out.new result }
 {
     let mut allow_base = [0u8; MOST_CENTRES];
-    if let Err(refusal) = call_prepare::prepare(&sheet.preparing(mover), steps, &mut allow_base, work) {
+    if let Err(refusal) = call_prepare::prepare(
+        &sheet.preparing(mover),
+        steps,
+        &mut allow_base,
+        work,
+    ) {
         return sheet_write::write_refusal(out, refusal);
     }
     let given = Given {

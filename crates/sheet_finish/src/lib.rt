@@ -1,16 +1,31 @@
 // A begun search of a sheet: stepped once, and what that leaves written. Apart from begin, so that the step is checked alone.
 #![tactic(auto)]
 
+ghost use Rattle.std.specs.Prelude.{◌≡◌, ◌≤◌, length};
 ghost use Rattle.std.proofs.Math.Option.{none};
 ghost use Rattle.set_places.specs.Given.{inputs_in};
 ghost use Rattle.call_lengths.specs.Lent.{work_of, store_of_areas};
-ghost use Rattle.sheet_texts.specs.Parts.{Front};
+ghost use Rattle.rule_calls.specs.Areas as areas;
+ghost use Rattle.sheet_texts.specs.Parts.{enough, Front, Writable};
+ghost use Rattle.sheet_texts.specs.Texts.{result_text};
 ghost use Rattle.sheet_rule.specs.Drive.{step_text};
 ghost use Rattle.sheet_finish.specs.Inner.{Steppable};
 
 use base_model::{Limits, Record};
 use call_lengths::{Store, Work};
 use set_places::Given;
+
+// Writes the result that stands in a record and its areas; that it fits the area rests on what the slices' types say of their entries.
+fn write_left(out: &mut [u8], end: Record, layouts: &[u16], points: &[u32]) -> usize
+    requires writable { Writable end.layouts end.routes layouts.now points.now }
+    requires enough_in_bounds { enough ≤ length out.old }
+    ensures { (a : areas.Store)
+        → a.layouts ≡ layouts.now
+        → a.points ≡ points.now
+        → Front (result_text end a) out.old out.new result }
+{
+    sheet_write::write_result(out, end, layouts, points)
+}
 
 // Steps a begun search once by the state limit, and writes what that leaves, or the refusal.
 pub fn finish(
@@ -29,7 +44,10 @@ pub fn finish(
         out.old out.new result }
 {
     match call_step::step(given, limits, steps, rec, limits.states, work, store) {
-        Ok(end) => sheet_write::write_result(out, end, store.layouts, store.points),
+        Ok(end) => {
+            let kept = store.kept();
+            write_left(out, end, kept.layouts, kept.points)
+        }
         Err(refusal) => sheet_write::write_refusal(out, refusal),
     }
 }

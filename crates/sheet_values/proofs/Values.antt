@@ -2,7 +2,7 @@
 use mathlib.Core.Path.{◌≡◌, refl, sym, ap, ◌∙◌, subst}
 use mathlib.Core.Bool.{Bool, true, false}
 use mathlib.Core.List.{List, [], ◌∷◌}
-use Prim.Native.Nat.{ℕ, zero, suc, ◌+◌, ◌<◌}
+use Prim.Native.Nat.{ℕ, ◌+◌, ◌<◌}
 use native.Mathlib.Omega.{arith}
 use lib.IntN.{ℤ}
 use mir.Val.{to_z, of_z}
@@ -15,7 +15,6 @@ use Rattle.base_model.specs.declared.Position.{Position}
 use Rattle.base_model.specs.Allow.{Allow}
 use Rattle.std.specs.Prelude.{None, Some, cond}
 use Rattle.base_model.specs.declared.Query.{Query}
-use Rattle.ground_rects.specs.Rects.{rect}
 use Rattle.sheet_form.specs.Sheets.{Sheet, sheet, signed_of, rect_of}
 use Rattle.sheet_lines.specs.Answers.{Stands}
 use Rattle.sheet_read.specs.Answers.{SheetHeld}

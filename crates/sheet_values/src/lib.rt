@@ -12,6 +12,8 @@ ghost use Rattle.sheet_values.specs.Inner.{position_in, allow_read, query_in, li
 ghost use Rattle.sheet_values.specs.Inner.{Rooms, Fronts, FlatIn};
 
 use base_model::{Bounds, EDGES, Limits, NUMBERS, Position, Query, SIDES};
+use set_places::FlatPlaces;
+use sheet_allowed::FlatSheet;
 use sheet_form::{
     ALLOW, BLOCK, END, LIMITS, MOST_OBSTACLES, MOST_PLACES, RESULTS, START, WINDOW, WORDS,
 };
@@ -46,10 +48,7 @@ fn allow_in(fixed: &[u32], allow: bool) -> Option<Bounds>
     requires { length fixed.now ≡ 20 }
     ensures { result ≡ allow_read allow fixed.now }
 {
-    if !allow {
-        return None;
-    }
-    Some(bounds_in(fixed, ALLOW))
+    allow.then(|| bounds_in(fixed, ALLOW))
 }
 
 // The query of a sheet, from the words of the lines that stand once.
@@ -57,17 +56,12 @@ fn query_in(fixed: &[u32], allow: bool) -> Query
     requires { length fixed.now ≡ 20 }
     ensures { result ≡ query_in allow fixed.now }
 {
-    let window = sheet_words::rect_in(fixed, WINDOW);
-    let start = position_in(fixed, START);
-    let end = position_in(fixed, END);
-    let block = bounds_in(fixed, BLOCK);
-    let allowed = allow_in(fixed, allow);
     Query {
-        window: window,
-        start: start,
-        end: end,
-        block: block,
-        allow: allowed,
+        window: sheet_words::rect_in(fixed, WINDOW),
+        start: position_in(fixed, START),
+        end: position_in(fixed, END),
+        block: bounds_in(fixed, BLOCK),
+        allow: allow_in(fixed, allow),
     }
 }
 
@@ -87,10 +81,8 @@ fn numbers_of(words: &[u32], n: usize, out: &mut [u32])
     requires { (12 * n ≤ length words.now) × (4 * n ≤ length out.old) }
     ensures { out.new ≡ filled (number_at words.now) (4 * n) out.old }
 {
-    let mut k = 0;
-    while k < NUMBERS * n {
+    for k in 0..NUMBERS * n {
         out[k] = words[WORDS * (k / NUMBERS) + k % NUMBERS];
-        k = k + 1;
     }
 }
 
@@ -99,10 +91,8 @@ fn edges_of(words: &[u32], n: usize, out: &mut [i32])
     requires { (12 * n ≤ length words.now) × (8 * n ≤ length out.old) }
     ensures { out.new ≡ filled (edge_at words.now) (8 * n) out.old }
 {
-    let mut k = 0;
-    while k < EDGES * n {
+    for k in 0..EDGES * n {
         out[k] = sheet_words::edge(words[WORDS * (k / EDGES) + (NUMBERS + k % EDGES)]);
-        k = k + 1;
     }
 }
 
@@ -111,22 +101,20 @@ fn sides_of(words: &[u32], n: usize, out: &mut [i32])
     requires { (n ≤ length words.now) × (n ≤ length out.old) }
     ensures { out.new ≡ filled (side_at words.now) n out.old }
 {
-    let mut k = 0;
-    while k < n {
+    for k in 0..n {
         out[k] = sheet_words::edge(words[k]);
-        k = k + 1;
     }
 }
 
-// Drives from the front of each area, as far as the counts say.
-fn drive_front(
+// Drives from the front of each area, as far as the counts say. The areas are lent at one lifetime, as one sheet holds them.
+fn drive_front<'a>(
     k: Counts,
     fixed: &[u32],
-    cells: &[u8],
-    sides: &[i32],
-    groups: &[u32],
-    numbers: &[u32],
-    edges: &[i32],
+    cells: &'a [u8],
+    sides: &'a [i32],
+    groups: &'a [u32],
+    numbers: &'a [u32],
+    edges: &'a [i32],
     out: &mut [u8],
 ) -> usize
     requires fronts { Fronts k fixed.now cells.now sides.now groups.now numbers.now edges.now }
@@ -136,27 +124,20 @@ fn drive_front(
         groups.now numbers.now edges.now
         → Front (drive_text original_steps s) out.old out.new result }
 {
-    let query = query_in(fixed, k.allow);
-    let limits = limits_in(fixed);
-    let c = k.cells;
-    let o = SIDES * k.obstacles;
-    let g = k.groups;
-    let n = NUMBERS * k.places;
-    let e = EDGES * k.places;
-    let steps = route_table::original_steps();
-    sheet_drive::drive(
-        fixed[0],
-        fixed[1],
-        &cells[..c],
-        &sides[..o],
-        query,
-        limits,
-        &groups[..g],
-        &numbers[..n],
-        &edges[..e],
-        &steps,
-        out,
-    )
+    let sheet = FlatSheet {
+        across: fixed[0],
+        down: fixed[1],
+        cells: &cells[..k.cells],
+        obstacles: &sides[..SIDES * k.obstacles],
+        query: query_in(fixed, k.allow),
+        limits: limits_in(fixed),
+        places: FlatPlaces {
+            groups: &groups[..k.groups],
+            numbers: &numbers[..NUMBERS * k.places],
+            edges: &edges[..EDGES * k.places],
+        },
+    };
+    sheet_drive::drive(&sheet, &route_table::original_steps(), out)
 }
 
 // Writes the answer to the sheet whose numbers stand in the areas.

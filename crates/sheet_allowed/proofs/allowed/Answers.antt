@@ -1,41 +1,29 @@
 -- `allowed`: prepare, then its refusal or the search.
 use native.Mathlib.Omega.{arith}
-use mathlib.Core.Path.{refl, sym}
+use mathlib.Core.Path.{sym, ap, ◌∙◌}
+use Rattle.base_model.specs.Answers.{reply_of}
+use Rattle.rule_calls.specs.Calls.{prepare_call}
+use Rattle.call_lengths.specs.Lent.{work_of}
 use Rattle.sheet_rule.specs.Drive.{no_bytes}
 use Rattle.sheet_allowed.proofs.Allowing.{allowed_refused, allowed_searched}
 use Rattle.sheet_allowed.proofs.allowed.Goals as goal
 
-pub slice_bounds-prepare-end : goal.slice_bounds-prepare-end
-slice_bounds-prepare-end c = refl
-
 pub write_refusal-requires : goal.write_refusal-requires
 write_refusal-requires c = omega (arith, c.requires)
 
-pub returns-in-Refused : goal.returns-in-Refused
-unfolding no_bytes
-returns-in-Refused c =
-    λ s m ms h
-    e. allowed_refused _ s _ _ _ _ _ _ _ _ _ h
-    c.prepare-answer.result
-    _ _ _ _ _ m ms _ e _ _
-    c.prepare-answer.ensures
-    _ c.in-Refused.is
-    c.requires
-    c.write_refusal.ensures
-
-pub slice_bounds-search-end : goal.slice_bounds-search-end
-slice_bounds-search-end c = sym c.prepare-answer.auto.baseline
+pub returns-in-Err : goal.returns-in-Err
+unfolding no_bytes reply_of
+returns-in-Err c =
+    λ s m ms h e.
+    allowed_refused _ s c.args.sheet.now h m ms c.args.mover e c.args.block_base.now (work_of c.args.work.now) _ _ _ _ _ c.in-Err.refusal
+    (ap (λ q. prepare_call c.args.steps.now q no_bytes (work_of c.args.work.now)) (sym c.preparing.ensures) ∙ c.in-Err.ensures.call) c.requires c.write_refusal.ensures
 
 pub search-requires : goal.search-requires
 search-requires c = c.requires
 
 pub returns : goal.returns
-unfolding no_bytes
+unfolding no_bytes reply_of
 returns c =
-    λ s m ms h
-    e. allowed_searched _ s _ _ _ _ _ _ _ _ _ h
-    c.prepare-answer.result
-    _ _ _ _ _ m ms _ e _ _
-    c.prepare-answer.ensures
-    c.in_default.is
-    c.search.ensures
+    λ s m ms h e.
+    allowed_searched _ s c.args.sheet.now h m ms c.args.mover e c.args.block_base.now (work_of c.args.work.now) _ _ _ _ _
+    (ap (λ q. prepare_call c.args.steps.now q no_bytes (work_of c.args.work.now)) (sym c.preparing.ensures) ∙ c.in_default.ensures.call) c.search.ensures

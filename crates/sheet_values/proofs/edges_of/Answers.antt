@@ -1,9 +1,9 @@
--- The answers to the goals of `sheet_values::edges_of`.
-use Rattle.sheet_values.proofs.Values.{edge_same}
+-- `edges_of`: the entries written, and that they are all.
 use Prim.Native.Nat.{◌*◌}
 use native.Mathlib.Omega.{arith}
 use Rattle.base_laws.proofs.Fill.{filling_none, filling_more, filling_all}
 use Rattle.sheet_values.specs.Inner.{edge_at}
+use Rattle.sheet_values.proofs.Values.{edge_same}
 use Rattle.sheet_values.proofs.edges_of.Goals as goal
 
 pub loop-k-init : goal.loop-k-init
@@ -12,11 +12,8 @@ loop-k-init c = filling_none (edge_at c.args.words.now) (8 * c.args.n) c.args.ou
 pub loop-k-preserved : goal.loop-k-preserved
 unfolding edge_at
 loop-k-preserved c =
-    filling_more (edge_at c.args.words.now) (8 * c.args.n) c.args.out.now c.requires.1 c.loop-k.out c.loop-k.k _ c.loop-k-test.true
+    filling_more (edge_at c.args.words.now) (8 * c.args.n) c.args.out.now c.requires.1 c.loop-k.out c.loop-k.k _ (omega arith)
     (edge_same c.edge.result _ c.edge.ensures) c.loop-k.invariant
 
 pub returns : goal.returns
-returns c =
-    filling_all (edge_at c.args.words.now) (8 * c.args.n)
-    c.args.out.now c.requires.1 c.loop-k.out c.loop-k.k
-    (omega (arith, c.loop-k-test.false)) c.loop-k.invariant
+returns c = filling_all (edge_at c.args.words.now) (8 * c.args.n) c.args.out.now c.requires.1 c.loop-k.out c.loop-k.k (omega arith) c.loop-k.invariant

@@ -1,4 +1,4 @@
--- The answers to the goals of `sheet_values::numbers_of`.
+-- `numbers_of`: the entries written, and that they are all.
 use mathlib.Core.Path.{refl}
 use Prim.Native.Nat.{◌*◌}
 use native.Mathlib.Omega.{arith}
@@ -11,10 +11,7 @@ loop-k-init c = filling_none (number_at c.args.words.now) (4 * c.args.n) c.args.
 
 pub loop-k-preserved : goal.loop-k-preserved
 unfolding number_at
-loop-k-preserved c =
-    filling_more (number_at c.args.words.now) (4 * c.args.n) c.args.out.now c.requires.1 c.loop-k.out c.loop-k.k _ c.loop-k-test.true refl c.loop-k.invariant
+loop-k-preserved c = filling_more (number_at c.args.words.now) (4 * c.args.n) c.args.out.now c.requires.1 c.loop-k.out c.loop-k.k _ (omega arith) refl c.loop-k.invariant
 
 pub returns : goal.returns
-returns c =
-    filling_all (number_at c.args.words.now) (4 * c.args.n) c.args.out.now c.requires.1 c.loop-k.out
-    c.loop-k.k (omega (arith, c.loop-k-test.false)) c.loop-k.invariant
+returns c = filling_all (number_at c.args.words.now) (4 * c.args.n) c.args.out.now c.requires.1 c.loop-k.out c.loop-k.k (omega arith) c.loop-k.invariant

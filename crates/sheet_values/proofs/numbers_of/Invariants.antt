@@ -1,11 +1,8 @@
--- `sheet_values::numbers_of` meets its contract: a filling: at each turn entry k is number k of the places' words. The measure is the number of entries left.
-use Prim.Native.Nat.{◌*◌, ◌-◌}
+-- `sheet_values::numbers_of`: the first k entries are written.
+use Prim.Native.Nat.{◌*◌}
 use Rattle.base_laws.specs.Fill.{Filling}
 use Rattle.sheet_values.specs.Inner.{number_at}
 use Rattle.sheet_values.proofs.numbers_of.Given as goal
 
 abbrev pub invariant-loop-k : goal.invariant-loop-k
 invariant-loop-k l = Filling (number_at l.words) (4 * l.n) l.initial.out l.out l.k
-
-abbrev pub decreases-loop-k : goal.decreases-loop-k
-decreases-loop-k l = 4 * l.n - l.k

@@ -1,8 +1,8 @@
--- The answers to the goals of `sheet_values::sides_of`.
-use Rattle.sheet_values.proofs.Values.{edge_same}
+-- `sides_of`: the entries written, and that they are all.
 use native.Mathlib.Omega.{arith}
 use Rattle.base_laws.proofs.Fill.{filling_none, filling_more, filling_all}
 use Rattle.sheet_values.specs.Inner.{side_at}
+use Rattle.sheet_values.proofs.Values.{edge_same}
 use Rattle.sheet_values.proofs.sides_of.Goals as goal
 
 pub loop-k-init : goal.loop-k-init
@@ -11,11 +11,8 @@ loop-k-init c = filling_none (side_at c.args.words.now) c.args.n c.args.out.now 
 pub loop-k-preserved : goal.loop-k-preserved
 unfolding side_at
 loop-k-preserved c =
-    filling_more (side_at c.args.words.now) c.args.n c.args.out.now c.requires.1 c.loop-k.out c.loop-k.k _ c.loop-k-test.true
+    filling_more (side_at c.args.words.now) c.args.n c.args.out.now c.requires.1 c.loop-k.out c.loop-k.k _ (omega arith)
     (edge_same c.edge.result _ c.edge.ensures) c.loop-k.invariant
 
 pub returns : goal.returns
-returns c =
-    filling_all (side_at c.args.words.now) c.args.n
-    c.args.out.now c.requires.1 c.loop-k.out c.loop-k.k
-    (omega (arith, c.loop-k-test.false)) c.loop-k.invariant
+returns c = filling_all (side_at c.args.words.now) c.args.n c.args.out.now c.requires.1 c.loop-k.out c.loop-k.k (omega arith) c.loop-k.invariant
