@@ -2,63 +2,78 @@
 #![tactic(auto)]
 
 ghost use Rattle.std.specs.Prelude.{◌≡◌};
-ghost use Rattle.rule_layouts.specs.Flat.{inputs_of};
-ghost use Rattle.rule_calls.specs.Areas.{work_in, store_in};
+ghost use Rattle.rule_calls.specs.Areas.{store_in};
+ghost use Rattle.rule_calls.specs.Calls.{begin_call, step_call, no_record, record_or};
+ghost use Rattle.base_model.specs.Answers.{reply_of};
+ghost use Rattle.set_places.specs.Given.{inputs_in};
+ghost use Rattle.call_lengths.specs.Lent.{work_of, kept_in};
 ghost use Rattle.walls_numbers.specs.Left.{begin_on, step_on, read_on};
+ghost use Rattle.call_lengths.specs.Same.{SameWork};
 
-use base_model::{Limits, Query};
+use base_model::{Limits, Record, Refusal};
+use call_lengths::{Kept, Store, Work};
+use set_places::Given;
+
+// Begins a search in the parts of the areas that are lent on.
+fn begin_in(
+    given: &Given<'_>,
+    limits: Limits,
+    steps: &[i32],
+    work: &mut Work<'_>,
+    lists: &mut [u16],
+    visited: &mut [u16],
+    layouts: &mut [u16],
+    points: &mut [u32],
+) -> Result<Record, Refusal>
+    ensures call { begin_call steps.now (inputs_in given.now) limits (work_of work.old)
+        (store_in lists.old visited.old layouts.old points.old)
+        ≡ record {
+          answer = reply_of result;
+          rec = record_or no_record result;
+          work = work_of work.new;
+          store = store_in lists.new visited.new layouts.new points.new;
+        } }
+    ensures same_work { SameWork work.old work.new }
+{
+    let mut store = Store {
+        lists,
+        visited,
+        layouts,
+        points,
+    };
+    call_begin::begin(given, limits, steps, work, &mut store)
+}
 
 // Begins a search, its record laid as numbers.
 pub fn begin_on(
-    query: Query,
+    given: &Given<'_>,
     limits: Limits,
-    groups: &[u32],
-    numbers: &[u32],
-    edges: &[i32],
-    block_base: &[u8],
-    allow_base: &[u8],
     steps: &[i32],
     rec: &mut [u32],
-    counts: &mut [i32],
-    map: &mut [u8],
-    queue: &mut [u32],
-    predecessors: &mut [u32],
-    route: &mut [u32],
+    work: &mut Work<'_>,
     lists: &mut [u16],
     visited: &mut [u16],
     layouts: &mut [u16],
     points: &mut [u32],
     index: &mut u32,
 ) -> u32
-    ensures { begin_on steps.now
-        (inputs_of query
-        groups.now numbers.now edges.now block_base.now allow_base.now)
-        limits rec.old
-        (work_in counts.old map.old queue.old predecessors.old route.old)
+    ensures call { begin_on steps.now (inputs_in given.now) limits rec.old (work_of work.old)
         (store_in lists.old visited.old layouts.old points.old)
         ≡ record {
           answer = result;
           index = index.new;
           numbers = rec.new;
-          work = work_in counts.new map.new queue.new predecessors.new route.new;
+          work = work_of work.new;
           store = store_in lists.new visited.new layouts.new points.new;
         } }
+    ensures same_work { SameWork work.old work.new }
 {
     let room = walls_given::visited_lent(visited.len(), rec.len());
-    let reply = call_begin::begin(
-        query,
+    let reply = begin_in(
+        given,
         limits,
-        groups,
-        numbers,
-        edges,
-        block_base,
-        allow_base,
         steps,
-        counts,
-        map,
-        queue,
-        predecessors,
-        route,
+        work,
         lists,
         &mut visited[..room],
         layouts,
@@ -67,61 +82,72 @@ pub fn begin_on(
     walls_told::tell(rec, reply, index)
 }
 
+// Steps a search in the parts of the areas that are lent on.
+fn step_in(
+    given: &Given<'_>,
+    limits: Limits,
+    steps: &[i32],
+    rec: Record,
+    n: u32,
+    work: &mut Work<'_>,
+    lists: &mut [u16],
+    visited: &mut [u16],
+    layouts: &mut [u16],
+    points: &mut [u32],
+) -> Result<Record, Refusal>
+    ensures call { step_call steps.now (inputs_in given.now) limits rec n (work_of work.old)
+        (store_in lists.old visited.old layouts.old points.old)
+        ≡ record {
+          answer = reply_of result;
+          rec = record_or rec result;
+          work = work_of work.new;
+          store = store_in lists.new visited.new layouts.new points.new;
+        } }
+    ensures same_work { SameWork work.old work.new }
+{
+    let mut store = Store {
+        lists,
+        visited,
+        layouts,
+        points,
+    };
+    call_step::step(given, limits, steps, rec, n, work, &mut store)
+}
+
 // Steps a search whose record is numbers.
 pub fn step_on(
-    query: Query,
+    given: &Given<'_>,
     limits: Limits,
-    groups: &[u32],
-    numbers: &[u32],
-    edges: &[i32],
-    block_base: &[u8],
-    allow_base: &[u8],
     steps: &[i32],
     rec: &mut [u32],
     n: u32,
-    counts: &mut [i32],
-    map: &mut [u8],
-    queue: &mut [u32],
-    predecessors: &mut [u32],
-    route: &mut [u32],
+    work: &mut Work<'_>,
     lists: &mut [u16],
     visited: &mut [u16],
     layouts: &mut [u16],
     points: &mut [u32],
     index: &mut u32,
 ) -> u32
-    ensures { step_on steps.now
-        (inputs_of query
-        groups.now numbers.now edges.now block_base.now allow_base.now)
-        limits rec.old n
-        (work_in counts.old map.old queue.old predecessors.old route.old)
+    ensures call { step_on steps.now (inputs_in given.now) limits rec.old n (work_of work.old)
         (store_in lists.old visited.old layouts.old points.old)
         ≡ record {
           answer = result;
           index = index.new;
           numbers = rec.new;
-          work = work_in counts.new map.new queue.new predecessors.new route.new;
+          work = work_of work.new;
           store = store_in lists.new visited.new layouts.new points.new;
         } }
+    ensures same_work { SameWork work.old work.new }
 {
     let room = walls_given::visited_lent(visited.len(), rec.len());
-    let given = walls_record::record_in(rec);
-    let reply = call_step::step(
-        query,
-        limits,
-        groups,
-        numbers,
-        edges,
-        block_base,
-        allow_base,
-        steps,
+    let held = walls_record::record_in(rec);
+    let reply = step_in(
         given,
+        limits,
+        steps,
+        held,
         n,
-        counts,
-        map,
-        queue,
-        predecessors,
-        route,
+        work,
         lists,
         &mut visited[..room],
         layouts,
@@ -132,28 +158,16 @@ pub fn step_on(
 
 // Tells where layout k's route stands, of a search whose record is numbers.
 pub fn read_on(
-    query: Query,
+    given: &Given<'_>,
     limits: Limits,
-    groups: &[u32],
-    numbers: &[u32],
-    edges: &[i32],
-    block_base: &[u8],
-    allow_base: &[u8],
     rec: &[u32],
     k: u32,
-    lists: &[u16],
-    visited: &[u16],
-    layouts: &[u16],
-    points: &[u32],
+    kept: &Kept<'_>,
     index: &mut u32,
     first: &mut u32,
     count: &mut u32,
 ) -> u32
-    ensures { read_on
-        (inputs_of query
-        groups.now numbers.now edges.now block_base.now allow_base.now)
-        limits rec.now k
-        (store_in lists.now visited.now layouts.now points.now)
+    ensures { read_on (inputs_in given.now) limits rec.now k (kept_in kept.now)
         ≡ record {
           answer = result;
           index = index.new;
@@ -161,30 +175,22 @@ pub fn read_on(
           count = count.new;
         } }
 {
-    let room = walls_given::visited_lent(visited.len(), rec.len());
-    let given = walls_record::record_in(rec);
-    let answer = call_read::read_checks(
-        query,
-        limits,
-        groups,
-        numbers,
-        edges,
-        block_base,
-        allow_base,
-        given,
-        k,
-        lists,
-        &visited[..room],
-        layouts,
-        points,
-    );
-    *index = call_read::index_of(answer);
-    if !call_read::accepted(answer) {
+    let room = walls_given::visited_lent(kept.visited.len(), rec.len());
+    let held = walls_record::record_in(rec);
+    let lent = Kept {
+        lists: kept.lists,
+        visited: &kept.visited[..room],
+        layouts: kept.layouts,
+        points: kept.points,
+    };
+    let answer = call_read::read_checks(given, limits, held, k, &lent);
+    *index = walls_told::index_of(&answer);
+    if let Err(refusal) = answer {
         *first = 0;
         *count = 0;
-        return call_read::number_of(answer);
+        return u32::from(refusal);
     }
-    *first = walls_told::first_point(given, k);
-    *count = walls_told::point_count(given, k);
+    *first = walls_told::first_point(held, k);
+    *count = walls_told::point_count(held, k);
     0
 }

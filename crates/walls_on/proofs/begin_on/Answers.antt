@@ -3,19 +3,19 @@ use mathlib.Core.Path.{sym}
 use native.Mathlib.Omega.{arith}
 use lib.ListN.{length}
 use lib.Seq.{length-take-le}
-use Rattle.rule_layouts.specs.Flat.{inputs_of}
-use Rattle.rule_layouts.specs.Inputs.{Inputs}
-use Rattle.rule_calls.specs.Areas.{work_in}
+use Rattle.rule_calls.specs.Calls.{no_record}
+use Rattle.set_places.specs.Given.{inputs_in}
+use Rattle.call_lengths.specs.Lent.{work_of}
 use Rattle.walls_numbers.proofs.Fifty.{lent_at_most}
 use Rattle.walls_numbers.proofs.Left.{begin_left}
 use Rattle.walls_on.proofs.begin_on.Goals as goal
 
-pub slice_bounds-begin-end : goal.slice_bounds-begin-end
-slice_bounds-begin-end c =
+pub slice_bounds-begin_in-end : goal.slice_bounds-begin_in-end
+slice_bounds-begin_in-end c =
     omega (arith, c.visited_lent-room.ensures, lent_at_most (length c.args.rec.now) (length c.args.visited.now))
 
-pub slice_bounds-begin-end-2 : goal.slice_bounds-begin-end-2
-slice_bounds-begin-end-2 c =
+pub slice_bounds-begin_in-end-2 : goal.slice_bounds-begin_in-end-2
+slice_bounds-begin_in-end-2 c =
     sym (length-take-le c.visited_lent-room.result c.args.visited.now
     (omega (
       arith,
@@ -23,11 +23,10 @@ slice_bounds-begin-end-2 c =
       lent_at_most (length c.args.rec.now) (length c.args.visited.now),
     )))
 
-pub returns : goal.returns
-returns c =
+pub returns-clause-call : goal.returns-clause-call
+returns-clause-call c =
     let a = c.args in
-    let i : Inputs = inputs_of a.query a.groups.now a.numbers.now a.edges.now a.block_base.now a.allow_base.now in
-    begin_left a.steps.now i a.limits a.rec.now (work_in a.counts.now a.map.now a.queue.now a.predecessors.now a.route.now)
+    begin_left a.steps.now (inputs_in a.given.now) a.limits a.rec.now (work_of a.work.now)
     a.lists.now a.visited.now a.layouts.now a.points.now c.visited_lent-room.result
     c.visited_lent-room.ensures _ _ _ _
-    c.begin-reply.ensures c.tell.ensures.1.1 c.tell.ensures.1.0 c.tell.ensures.0
+    c.begin_in-reply.ensures.call c.tell.ensures.number c.tell.ensures.index (c.tell.ensures.record no_record)
