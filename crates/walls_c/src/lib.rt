@@ -7,12 +7,75 @@ ghost use Rattle.std.specs.Prelude.{◌≡◌};
 ghost use Rattle.ground_rects.specs.Rects.{rect};
 ghost use Rattle.rule_layouts.specs.Flat.{inputs_of};
 ghost use Rattle.rule_calls.specs.Areas.{work_in, store_in};
-ghost use Rattle.call_prepare.specs.Prepare.{preparation};
+ghost use Rattle.base_model.specs.Answers.{reply_of};
+ghost use Rattle.rule_calls.specs.Calls.{prepare_call, judge_call, judgement_of};
+ghost use Rattle.set_places.specs.Given.{inputs_in};
+ghost use Rattle.call_prepare.specs.Prepare.{preparation, preparation_in};
 ghost use Rattle.walls_numbers.specs.Numbers.{query_from};
 ghost use Rattle.walls_numbers.specs.Left.{prepare_on, cover_on, lift_on, begin_on, step_on, read_on, judge_on};
 ghost use Rattle.walls_numbers.specs.Ranked.{rank_on, closer_on};
 
-use base_model::{Bounds, Limits, Position, Rank, Rect, Site};
+use base_model::{Bounds, Judged, Limits, Position, Rank, Rect, Refusal, Site};
+use call_lengths::{Kept, Work};
+use call_prepare::Preparing;
+use set_places::{FlatPlaces, Given};
+
+// Prepares a mover, the working areas taken together.
+fn prepare_in(
+    asked: &Preparing<'_>,
+    steps: &[i32],
+    baseline: &mut [u8],
+    counts: &mut [i32],
+    map: &mut [u8],
+    queue: &mut [u32],
+    predecessors: &mut [u32],
+    route: &mut [u32],
+) -> Result<(), Refusal>
+    ensures { prepare_call steps.now (preparation_in asked.now) baseline.old
+        (work_in counts.old map.old queue.old predecessors.old route.old)
+        ≡ record {
+          answer = reply_of result;
+          baseline = baseline.new;
+          work = work_in counts.new map.new queue.new predecessors.new route.new;
+        } }
+{
+    let mut work = Work {
+        counts,
+        map,
+        queue,
+        predecessors,
+        route,
+    };
+    call_prepare::prepare(asked, steps, baseline, &mut work)
+}
+
+// Judges a selection, the working areas taken together.
+fn judge_in(
+    given: &Given<'_>,
+    steps: &[i32],
+    selection: &[u16],
+    counts: &mut [i32],
+    map: &mut [u8],
+    queue: &mut [u32],
+    predecessors: &mut [u32],
+    route: &mut [u32],
+) -> Result<Judged, Refusal>
+    ensures { judge_call steps.now (inputs_in given.now) selection.now
+        (work_in counts.old map.old queue.old predecessors.old route.old)
+        ≡ record {
+          answer = judgement_of result;
+          work = work_in counts.new map.new queue.new predecessors.new route.new;
+        } }
+{
+    let mut work = Work {
+        counts,
+        map,
+        queue,
+        predecessors,
+        route,
+    };
+    call_judge::judge(given, steps, selection, &mut work)
+}
 
 // Prepares a mover.
 #[unsafe(no_mangle)]
@@ -71,7 +134,7 @@ pub extern "C" fn hitrovzen_prepare(
         right: mover_right,
         bottom: mover_bottom,
     };
-    call_read::number_of(call_prepare::prepare(
+    let asked = Preparing {
         across,
         down,
         cells,
@@ -80,13 +143,9 @@ pub extern "C" fn hitrovzen_prepare(
         start,
         end,
         mover,
-        steps,
-        baseline,
-        counts,
-        map,
-        queue,
-        predecessors,
-        route,
+    };
+    walls_told::number_of(&prepare_in(
+        &asked, steps, baseline, counts, map, queue, predecessors, route,
     ))
 }
 
@@ -132,7 +191,7 @@ pub extern "C" fn hitrovzen_cover(
         right: rect_right,
         bottom: rect_bottom,
     };
-    call_read::number_of(call_cover::cover(window, mover, rect, baseline))
+    walls_told::number_of(&call_cover::cover(window, mover, rect, baseline))
 }
 
 // Lifts the rectangle off again.
@@ -177,7 +236,7 @@ pub extern "C" fn hitrovzen_lift(
         right: rect_right,
         bottom: rect_bottom,
     };
-    call_read::number_of(call_cover::lift(window, mover, rect, baseline))
+    walls_told::number_of(&call_cover::lift(window, mover, rect, baseline))
 }
 
 // Begins a search. A refusal leaves the numbers of the record as they were; entries past the fiftieth are never written.
@@ -257,29 +316,23 @@ pub extern "C" fn hitrovzen_begin(
         allow_bottom,
     );
     let limits = Limits {
-        states: states,
-        results: results,
+        states,
+        results,
     };
-    walls_on::begin_on(
-        query,
-        limits,
+    let places = FlatPlaces {
         groups,
         numbers,
         edges,
+    };
+    let given = Given {
+        query,
+        places,
         block_base,
         allow_base,
-        steps,
-        rec,
-        counts,
-        map,
-        queue,
-        predecessors,
-        route,
-        lists,
-        visited,
-        layouts,
-        points,
-        index,
+    };
+    walls_on::begin_on(
+        &given, limits, steps, rec, counts, map, queue, predecessors, route, lists, visited,
+        layouts, points, index,
     )
 }
 
@@ -361,30 +414,23 @@ pub extern "C" fn hitrovzen_step(
         allow_bottom,
     );
     let limits = Limits {
-        states: states,
-        results: results,
+        states,
+        results,
     };
-    walls_on::step_on(
-        query,
-        limits,
+    let places = FlatPlaces {
         groups,
         numbers,
         edges,
+    };
+    let given = Given {
+        query,
+        places,
         block_base,
         allow_base,
-        steps,
-        rec,
-        n,
-        counts,
-        map,
-        queue,
-        predecessors,
-        route,
-        lists,
-        visited,
-        layouts,
-        points,
-        index,
+    };
+    walls_on::step_on(
+        &given, limits, steps, rec, n, counts, map, queue, predecessors, route, lists, visited,
+        layouts, points, index,
     )
 }
 
@@ -461,13 +507,27 @@ pub extern "C" fn hitrovzen_read(
         allow_bottom,
     );
     let limits = Limits {
-        states: states,
-        results: results,
+        states,
+        results,
     };
-    walls_on::read_on(
-        query, limits, groups, numbers, edges, block_base, allow_base, rec, k, lists, visited,
-        layouts, points, index, first, count,
-    )
+    let places = FlatPlaces {
+        groups,
+        numbers,
+        edges,
+    };
+    let given = Given {
+        query,
+        places,
+        block_base,
+        allow_base,
+    };
+    let kept = Kept {
+        lists,
+        visited,
+        layouts,
+        points,
+    };
+    walls_on::read_on(&given, limits, rec, k, &kept, index, first, count)
 }
 
 // Judges a selection of placements. The verdict is 1 to 7, in the order of RULES 7.7; verdict and ground are 0 on a refusal.
@@ -541,25 +601,24 @@ pub extern "C" fn hitrovzen_judge(
         allow_right,
         allow_bottom,
     );
-    let judged = call_judge::judge(
-        query,
+    let places = FlatPlaces {
         groups,
         numbers,
         edges,
+    };
+    let given = Given {
+        query,
+        places,
         block_base,
         allow_base,
-        steps,
-        selection,
-        counts,
-        map,
-        queue,
-        predecessors,
-        route,
+    };
+    let judged = judge_in(
+        &given, steps, selection, counts, map, queue, predecessors, route,
     );
-    *index = walls_told::index_in(judged);
+    *index = walls_told::index_of(&judged);
     *verdict = walls_told::verdict_in(judged);
     *ground = walls_told::ground_in(judged);
-    walls_told::answer_in(judged)
+    walls_told::number_of(&judged)
 }
 
 // Ranks a placement by the squared distance of its footprint's centre from the entrance: quotient + remainder / divisor. The three are 0
@@ -602,9 +661,9 @@ pub extern "C" fn hitrovzen_rank(
         y: second_y,
     };
     let site = Site {
-        first: first,
-        second: second,
-        radius: radius,
+        first,
+        second,
+        radius,
     };
     let footprint = Rect {
         left: footprint_left,
@@ -617,7 +676,7 @@ pub extern "C" fn hitrovzen_rank(
     *quotient = rank.quotient;
     *remainder = rank.remainder;
     *divisor = rank.divisor;
-    walls_told::rank_answer_in(ranked)
+    walls_told::number_of(&ranked)
 }
 
 // Whether the first rank is closer than the other: 1 if it is, else 0.
@@ -635,17 +694,14 @@ pub extern "C" fn hitrovzen_closer(
         (record { quotient = other_quotient; remainder = other_remainder; divisor = other_divisor }) }
 {
     let rank = Rank {
-        quotient: quotient,
-        remainder: remainder,
-        divisor: divisor,
+        quotient,
+        remainder,
+        divisor,
     };
     let other = Rank {
         quotient: other_quotient,
         remainder: other_remainder,
         divisor: other_divisor,
     };
-    if call_rank::closer(rank, other) {
-        return 1;
-    }
-    0
+    u32::from(call_rank::closer(rank, other))
 }

@@ -2,46 +2,55 @@
 #![tactic(auto)]
 
 ghost use Rattle.std.specs.Prelude.{◌≡◌};
-ghost use Rattle.rule_calls.specs.Areas.{store_in};
+ghost use Rattle.rule_calls.specs.Areas.{work_in, store_in};
 ghost use Rattle.rule_calls.specs.Calls.{begin_call, step_call, no_record, record_or};
 ghost use Rattle.base_model.specs.Answers.{reply_of};
 ghost use Rattle.set_places.specs.Given.{inputs_in};
-ghost use Rattle.call_lengths.specs.Lent.{work_of, kept_in};
+ghost use Rattle.call_lengths.specs.Lent.{kept_in};
 ghost use Rattle.walls_numbers.specs.Left.{begin_on, step_on, read_on};
-ghost use Rattle.call_lengths.specs.Same.{SameWork};
 
 use base_model::{Limits, Record, Refusal};
 use call_lengths::{Kept, Store, Work};
 use set_places::Given;
 
-// Begins a search in the parts of the areas that are lent on.
+// Begins a search, its areas taken together.
 fn begin_in(
     given: &Given<'_>,
     limits: Limits,
     steps: &[i32],
-    work: &mut Work<'_>,
+    counts: &mut [i32],
+    map: &mut [u8],
+    queue: &mut [u32],
+    predecessors: &mut [u32],
+    route: &mut [u32],
     lists: &mut [u16],
     visited: &mut [u16],
     layouts: &mut [u16],
     points: &mut [u32],
 ) -> Result<Record, Refusal>
-    ensures call { begin_call steps.now (inputs_in given.now) limits (work_of work.old)
+    ensures { begin_call steps.now (inputs_in given.now) limits (work_in counts.old map.old queue.old predecessors.old route.old)
         (store_in lists.old visited.old layouts.old points.old)
         ≡ record {
           answer = reply_of result;
           rec = record_or no_record result;
-          work = work_of work.new;
+          work = work_in counts.new map.new queue.new predecessors.new route.new;
           store = store_in lists.new visited.new layouts.new points.new;
         } }
-    ensures same_work { SameWork work.old work.new }
 {
+    let mut work = Work {
+        counts,
+        map,
+        queue,
+        predecessors,
+        route,
+    };
     let mut store = Store {
         lists,
         visited,
         layouts,
         points,
     };
-    call_begin::begin(given, limits, steps, work, &mut store)
+    call_begin::begin(given, limits, steps, &mut work, &mut store)
 }
 
 // Begins a search, its record laid as numbers.
@@ -50,30 +59,37 @@ pub fn begin_on(
     limits: Limits,
     steps: &[i32],
     rec: &mut [u32],
-    work: &mut Work<'_>,
+    counts: &mut [i32],
+    map: &mut [u8],
+    queue: &mut [u32],
+    predecessors: &mut [u32],
+    route: &mut [u32],
     lists: &mut [u16],
     visited: &mut [u16],
     layouts: &mut [u16],
     points: &mut [u32],
     index: &mut u32,
 ) -> u32
-    ensures call { begin_on steps.now (inputs_in given.now) limits rec.old (work_of work.old)
+    ensures { begin_on steps.now (inputs_in given.now) limits rec.old (work_in counts.old map.old queue.old predecessors.old route.old)
         (store_in lists.old visited.old layouts.old points.old)
         ≡ record {
           answer = result;
           index = index.new;
           numbers = rec.new;
-          work = work_of work.new;
+          work = work_in counts.new map.new queue.new predecessors.new route.new;
           store = store_in lists.new visited.new layouts.new points.new;
         } }
-    ensures same_work { SameWork work.old work.new }
 {
     let room = walls_given::visited_lent(visited.len(), rec.len());
     let reply = begin_in(
         given,
         limits,
         steps,
-        work,
+        counts,
+        map,
+        queue,
+        predecessors,
+        route,
         lists,
         &mut visited[..room],
         layouts,
@@ -82,36 +98,46 @@ pub fn begin_on(
     walls_told::tell(rec, reply, index)
 }
 
-// Steps a search in the parts of the areas that are lent on.
+// Steps a search, its areas taken together.
 fn step_in(
     given: &Given<'_>,
     limits: Limits,
     steps: &[i32],
     rec: Record,
     n: u32,
-    work: &mut Work<'_>,
+    counts: &mut [i32],
+    map: &mut [u8],
+    queue: &mut [u32],
+    predecessors: &mut [u32],
+    route: &mut [u32],
     lists: &mut [u16],
     visited: &mut [u16],
     layouts: &mut [u16],
     points: &mut [u32],
 ) -> Result<Record, Refusal>
-    ensures call { step_call steps.now (inputs_in given.now) limits rec n (work_of work.old)
+    ensures { step_call steps.now (inputs_in given.now) limits rec n (work_in counts.old map.old queue.old predecessors.old route.old)
         (store_in lists.old visited.old layouts.old points.old)
         ≡ record {
           answer = reply_of result;
           rec = record_or rec result;
-          work = work_of work.new;
+          work = work_in counts.new map.new queue.new predecessors.new route.new;
           store = store_in lists.new visited.new layouts.new points.new;
         } }
-    ensures same_work { SameWork work.old work.new }
 {
+    let mut work = Work {
+        counts,
+        map,
+        queue,
+        predecessors,
+        route,
+    };
     let mut store = Store {
         lists,
         visited,
         layouts,
         points,
     };
-    call_step::step(given, limits, steps, rec, n, work, &mut store)
+    call_step::step(given, limits, steps, rec, n, &mut work, &mut store)
 }
 
 // Steps a search whose record is numbers.
@@ -121,23 +147,26 @@ pub fn step_on(
     steps: &[i32],
     rec: &mut [u32],
     n: u32,
-    work: &mut Work<'_>,
+    counts: &mut [i32],
+    map: &mut [u8],
+    queue: &mut [u32],
+    predecessors: &mut [u32],
+    route: &mut [u32],
     lists: &mut [u16],
     visited: &mut [u16],
     layouts: &mut [u16],
     points: &mut [u32],
     index: &mut u32,
 ) -> u32
-    ensures call { step_on steps.now (inputs_in given.now) limits rec.old n (work_of work.old)
+    ensures { step_on steps.now (inputs_in given.now) limits rec.old n (work_in counts.old map.old queue.old predecessors.old route.old)
         (store_in lists.old visited.old layouts.old points.old)
         ≡ record {
           answer = result;
           index = index.new;
           numbers = rec.new;
-          work = work_of work.new;
+          work = work_in counts.new map.new queue.new predecessors.new route.new;
           store = store_in lists.new visited.new layouts.new points.new;
         } }
-    ensures same_work { SameWork work.old work.new }
 {
     let room = walls_given::visited_lent(visited.len(), rec.len());
     let held = walls_record::record_in(rec);
@@ -147,7 +176,11 @@ pub fn step_on(
         steps,
         held,
         n,
-        work,
+        counts,
+        map,
+        queue,
+        predecessors,
+        route,
         lists,
         &mut visited[..room],
         layouts,

@@ -19,5 +19,5 @@ returns c =
     (preparation a.across a.down a.cells.now a.obstacles.now x (record { x = a.start_x; y = a.start_y })
     (record { x = a.end_x; y = a.end_y })
     (record { left = a.mover_left; top = a.mover_top; right = a.mover_right; bottom = a.mover_bottom })) a.baseline.now w)
-    (sym e) ∙ c.prepare.ensures)
+    (sym e) ∙ c.prepare_in.ensures)
     c.number_of.ensures
