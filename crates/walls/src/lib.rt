@@ -2,11 +2,16 @@
 // crate that the call is handed on from.
 #![tactic(auto)]
 
+// What the calls are lent: a plan, the working areas, the areas that hold a search, and the same where they are only read.
+pub use call_lengths::{Kept, Store, Work};
+pub use walls_lent::Plan;
+
 // The order of steps of the original, as a table.
 pub use route_table::original_steps;
 
-// Marks a mover's baseline. This call and the next two are the calls by value: they take neither placements nor a record.
-pub use call_prepare::prepare;
+// Marks a mover's baseline: of a map, a window with its ends and the mover. This call and the next two take neither placements nor a
+// record.
+pub use call_prepare::{Preparing, prepare};
 
 // Covers a mover's baseline with a rectangle: one more at each centre off which it keeps the mover.
 pub use call_cover::cover;
@@ -14,20 +19,20 @@ pub use call_cover::cover;
 // Lifts the rectangle off again: one less at each of these centres.
 pub use call_cover::lift;
 
-// Ranks a placement by the squared distance of its footprint's centre from the entrance, with the remainder. This call and the next take
-// no area.
+// Ranks a placement by the squared distance of its footprint's centre from the entrance, with the remainder; none beyond the radius. This
+// call and the next take no area.
 pub use call_rank::rank;
 
 // Whether the first of two ranks is closer: an order to sort by.
 pub use call_rank::closer;
 
-// Begins a search: the record is handed back, all zero on refusal.
+// Begins a search and hands its record back.
 pub use walls_begin::begin;
 
 // Evaluates n sets more, or stops. The search record is altered here alone.
 pub use walls_step::step;
 
-// Hands back layout k's allowed route, a part of the points area. The answer and its index are 0, or those of the refusal.
+// Hands back layout k's allowed route, a part of the points area.
 pub use walls_read::read;
 
 // Judges a selection of placements, and counts the ground left: the centres to which the blocked mover has a route from the start.
