@@ -225,6 +225,7 @@ unfolding computing driving judged corridor
 judge_leaves = refl
 
 -- the answers of the code
-pub answers_judged : judgement_of (Ok (record { verdict = Spare; ground = 10 })) ∷ judgement_of (Err (PlacementInvalid 7)) ∷ [] ≡ judges Spare 10 ∷ refuses (record { number = 15; values = 7 ∷ [] }) ∷ []
+pub answers_judged : judgement_of (Ok (record { verdict = Spare; ground = 10 })) ∷ judgement_of (Err (PlacementInvalid 7)) ∷ []
+    ≡ judges Spare 10 ∷ refuses (record { number = 15; values = 7 ∷ [] }) ∷ []
 unfolding computing
 answers_judged = refl
