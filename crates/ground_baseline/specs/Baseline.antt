@@ -4,7 +4,6 @@ use Rattle.std.specs.Int.Signed.{le_z, lt_z}
 use Rattle.base_laws.specs.Lists.{any_of, all_of, below}
 use Rattle.base_model.specs.declared.Rect.{Rect}
 use Rattle.base_model.specs.declared.Bounds.{Bounds}
-use Rattle.ground_baseline.specs.declared.Cells.{Cells}
 use Rattle.ground_rects.specs.Rects.{rect, keeps_off}
 use Rattle.ground_rects.specs.Windows.{size_fits, centres, pixel_x, pixel_y}
 
@@ -13,10 +12,6 @@ pub record Map : Type 0 where
   pub across : ℕ
   pub down : ℕ
   pub cells : List ℕ
-
--- what is lent of it
-abbrev pub map_of : Cells → Map
-map_of c = record { across = c.across; down = c.down; cells = c.cells.now }
 
 -- passes 1: map size (1 to 1,024 each way), cell count and cell bytes
 unfoldable pub map_fits : Map → Bool

@@ -7,7 +7,8 @@ ghost use Rattle.base_laws.specs.Ints.{up};
 ghost use Rattle.base_laws.specs.Fill.{filled, Filling};
 ghost use Rattle.ground_rects.specs.Rects.{nonempty, small, rects_of};
 ghost use Rattle.ground_rects.specs.Windows.{width, height, centres};
-ghost use Rattle.ground_baseline.specs.Baseline.{map_of, map_fits, cell_rect, off_edge, baseline_of};
+ghost use Rattle.ground_baseline.specs.Baseline.{map_fits, cell_rect, off_edge, baseline_of};
+ghost use Rattle.ground_baseline.specs.Lent.{map_of};
 ghost use Rattle.ground_baseline.specs.Stamps.{shut_cells, RectsStamped, Open, Setting, blocked_at, RowAsked, Centres, Checked};
 
 use base_model::{Bounds, CELL, OBSTACLES, Rect, SIDES};

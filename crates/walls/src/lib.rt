@@ -3,15 +3,19 @@
 #![tactic(auto)]
 
 // What the calls are lent: a plan, the working areas, the areas that hold a search, and the same where they are only read.
-pub use call_lengths::{Kept, Store, Work};
+pub use call_lengths::Kept;
+pub use call_lengths::Store;
+pub use call_lengths::Work;
 pub use walls_lent::Plan;
 
 // The order of steps of the original, as a table.
 pub use route_table::original_steps;
 
-// Marks a mover's baseline: of a map, a window with its ends and the mover. This call and the next two take neither placements nor a
-// record.
-pub use call_prepare::{Preparing, prepare};
+// What preparing is asked: the map, its obstacles, a window with its ends, and the mover.
+pub use call_prepare::Preparing;
+
+// Marks a mover's baseline. This call and the next two take neither placements nor a record.
+pub use call_prepare::prepare;
 
 // Covers a mover's baseline with a rectangle: one more at each centre off which it keeps the mover.
 pub use call_cover::cover;

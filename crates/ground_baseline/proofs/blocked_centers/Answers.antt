@@ -17,7 +17,8 @@ use mir.Syntax.{w32}
 use mir.Val.{to_z, of_z}
 use Rattle.std.proofs.lemmas.Int.{ints}
 use Rattle.ground_rects.proofs.Windows.{Framed, framed}
-use Rattle.ground_baseline.specs.Baseline.{Map, map_of}
+use Rattle.ground_baseline.specs.Baseline.{Map}
+use Rattle.ground_baseline.specs.Lent.{map_of}
 use Rattle.ground_baseline.specs.Stamps.{entries, blocked_at, RowAsked, Centres}
 use Rattle.ground_baseline.proofs.blocked_centers.Goals as goal
 

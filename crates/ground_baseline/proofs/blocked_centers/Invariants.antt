@@ -1,7 +1,7 @@
 -- `ground_baseline::blocked_centers` meets its contract. Before the turn at y, the centres of the first y rows are marked.
 use Prim.Native.Nat.{◌*◌}
 use Rattle.base_laws.specs.Fill.{Filling}
-use Rattle.ground_baseline.specs.Baseline.{map_of}
+use Rattle.ground_baseline.specs.Lent.{map_of}
 use Rattle.ground_baseline.specs.Stamps.{blocked_at}
 use Rattle.ground_baseline.proofs.blocked_centers.Given as goal
 

@@ -10,7 +10,8 @@ use lib.ListN.{get_or}
 use mir.Val.{bool_byte}
 use Rattle.std.proofs.lemmas.Int.{to_z-of_z}
 use Rattle.ground_counts.specs.Counts.{bit}
-use Rattle.ground_baseline.specs.Baseline.{map_of, off_edge}
+use Rattle.ground_baseline.specs.Baseline.{off_edge}
+use Rattle.ground_baseline.specs.Lent.{map_of}
 use Rattle.ground_baseline.specs.Stamps.{blocked_at}
 use Rattle.ground_baseline.proofs.blocked_row.Invariants.{turned, byte}
 use Rattle.ground_baseline.proofs.blocked_row.Goals as goal

@@ -12,7 +12,8 @@ use Rattle.base_laws.specs.Fill.{Filling}
 use Rattle.base_laws.proofs.Fill.{filling_more}
 use Rattle.base_model.specs.declared.Bounds.{Bounds}
 use Rattle.ground_counts.specs.Counts.{bit}
-use Rattle.ground_baseline.specs.Baseline.{Map, map_of, off_edge}
+use Rattle.ground_baseline.specs.Baseline.{Map, off_edge}
+use Rattle.ground_baseline.specs.Lent.{map_of}
 use Rattle.ground_baseline.specs.Stamps.{blocked_at}
 use Rattle.ground_baseline.proofs.blocked_row.Given as goal
 

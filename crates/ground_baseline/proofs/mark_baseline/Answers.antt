@@ -3,7 +3,7 @@ use mathlib.Core.Path.{◌∙◌}
 use native.Mathlib.Omega.{arith}
 use lib.ListN.{length}
 use Rattle.ground_rects.proofs.Windows.{framed}
-use Rattle.ground_baseline.specs.Baseline.{map_of}
+use Rattle.ground_baseline.specs.Lent.{map_of}
 use Rattle.ground_baseline.proofs.Stages.{room, setting, asks_terrain, asks_obstacles, asks_finish, asks_centres, cleared, marked}
 use Rattle.ground_baseline.proofs.mark_baseline.Goals as goal
 

@@ -1,5 +1,5 @@
 -- The answers to the goals of `ground_baseline::Layer::stamp_terrain_blockers`.
-use Rattle.ground_baseline.specs.Baseline.{map_of}
+use Rattle.ground_baseline.specs.Lent.{map_of}
 use Rattle.ground_baseline.proofs.Layer.stamp_terrain_blockers.Invariants.{start, still, passed, laid_one}
 use Rattle.ground_baseline.proofs.Layer.stamp_terrain_blockers.Goals as goal
 use Rattle.ground_baseline.proofs.Layer.stamp_terrain_blockers.Goals.{then-cell-eq0, else-cell-eq0}

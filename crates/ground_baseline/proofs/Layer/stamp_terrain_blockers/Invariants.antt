@@ -9,7 +9,8 @@ use lib.ListN.{length, get_or, length-append}
 use borrow.Author.Tests.{eq-eqb, ne_eqb}
 use Rattle.base_model.specs.declared.Rect.{Rect}
 use Rattle.base_model.specs.declared.Bounds.{Bounds}
-use Rattle.ground_baseline.specs.Baseline.{Map, map_of, cell_rect}
+use Rattle.ground_baseline.specs.Baseline.{Map, cell_rect}
+use Rattle.ground_baseline.specs.Lent.{map_of}
 use Rattle.ground_baseline.specs.Stamps.{shut_cells, RectsStamped, Open}
 use Rattle.ground_baseline.proofs.Stamps.{laid_last, cells_none, cells_shut, cells_open, cells_few, get_d_same}
 use Rattle.ground_baseline.proofs.Layer.stamp_terrain_blockers.Given as goal
