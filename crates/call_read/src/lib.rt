@@ -52,7 +52,10 @@ fn check_recorded(
         given.now.places.numbers.now given.now.places.edges.now kept.now.lists.now kept.now.visited.now kept.now.layouts.now }
     ensures { reply_of result ≡ first (recorded (inputs_in given.now) limits rec k (kept_in kept.now)) }
 {
-    ask(call_record::record_fits(given, limits, rec, kept), Refusal::RecordInvalid)?;
+    ask(
+        call_record::record_fits(given, limits, rec, kept),
+        Refusal::RecordInvalid,
+    )?;
     ask(k < rec.layouts, Refusal::SelectionInvalid)
 }
 

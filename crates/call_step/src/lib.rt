@@ -29,7 +29,10 @@ fn step_checks(
 {
     call_checks::begin_checks(given, limits, work, kept.lengths())?;
     call_checks::check_places(given.query.window, &given.places)?;
-    ask(call_record::record_fits(given, limits, rec, kept), Refusal::RecordInvalid)
+    ask(
+        call_record::record_fits(given, limits, rec, kept),
+        Refusal::RecordInvalid,
+    )
 }
 
 // A step by n: n sets are evaluated, or the search stops. On a refusal nothing is written.

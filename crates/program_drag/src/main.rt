@@ -8,6 +8,7 @@ use program_words::answers;
 use set_places::{FlatPlaces, Given};
 use std::io;
 use std::io::Write;
+use walls::Preparing;
 
 // The map is one walkable cell.
 const ACROSS: u32 = 1;
@@ -143,28 +144,29 @@ fn say_done<W: Write>(
 
 // Prepares the mover; there is no obstacle.
 fn prepare_mover<W: Write>(out: &mut W, steps: &[i32], baseline: &mut Baseline) -> io::Result<()> {
+    let asked = Preparing {
+        across: ACROSS,
+        down: DOWN,
+        cells: &[WALKABLE],
+        obstacles: &[],
+        window: WINDOW,
+        start: START,
+        end: END,
+        mover: MOVER,
+    };
     let mut counts = [0i32; CORNERS];
     let mut map = [0u8; CENTRES];
     let mut queue = [0u32; CENTRES];
     let mut predecessors = [0u32; CENTRES];
     let mut route = [0u32; CENTRES];
-    let answer = walls::prepare(
-        ACROSS,
-        DOWN,
-        &[WALKABLE],
-        &[],
-        WINDOW,
-        START,
-        END,
-        MOVER,
-        steps,
-        baseline,
-        &mut counts,
-        &mut map,
-        &mut queue,
-        &mut predecessors,
-        &mut route,
-    );
+    let mut work = Work {
+        counts: &mut counts,
+        map: &mut map,
+        queue: &mut queue,
+        predecessors: &mut predecessors,
+        route: &mut route,
+    };
+    let answer = walls::prepare(&asked, steps, baseline, &mut work);
     say_done(out, "prepare", answer, steps, baseline)
 }
 

@@ -25,11 +25,7 @@ fn refuse_rest<W: Write>(writer: &mut W, all: &[u8]) -> io::Result<usize> {
 
 // Answers the sheet at a place, and gives the place after it.
 fn reply_at<W: Write>(writer: &mut W, all: &[u8], at: usize) -> io::Result<usize> {
-    let Ok(Taken {
-        value,
-        next: end,
-    }) = text_numbers::number(all, at, 65536)
-    else {
+    let Ok(Taken { value, next: end }) = text_numbers::number(all, at, 65536) else {
         return refuse_rest(writer, all);
     };
     let n = value as usize;

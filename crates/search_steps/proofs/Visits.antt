@@ -259,7 +259,8 @@ module _ (t : Terms) (given : Given t) (a₀ : Store) (s : State) (r : Record) (
                     ap (λ (q : List ℕ). length q) (points_are_lem t a₀ s r a h),
                     length_laid (points_length (inputs_under t) t.limits) (flat (map (λ (y : Layout). numbers y.route) s.layouts))
                         a₀.points (omega (arith, length_kept s.layouts, points_fit t s h.good)),
-                    space (omega (arith, wall_number m e)), wall_number m e,
+                    space (omega (arith, wall_number m e)),
+                    wall_number m e,
                   );
             }
 
@@ -334,70 +335,70 @@ route_inside c m route e l = omega (arith, length-take m route)
 module _ (t : Terms) (given : Given t) (a₀ : Store) (s : State) (r : Record) (a : Store) (h : Holds t a₀ s r a) (ripe : Ripe (plan_in t) s) (set : List ℕ)
     (f : (ms : List Extensions) (rest : List ℕ) → Stood a.lists r.placements (take r.lists r.nexts) ms rest → set ≡ row (set_on (reverse ms)))
   where
-  pub visit_row : set ≡ row (set_on s.lists)
-  visit_row = row_is t given a₀ s r a h ripe set f
+    pub visit_row : set ≡ row (set_on s.lists)
+    visit_row = row_is t given a₀ s r a h ripe set f
 
-  pub visit_size : (get_or set 0 0 ≤ 6) × (length set ≡ 7)
-  visit_size = set_size t given a₀ s r a h ripe set visit_row
+    pub visit_size : (get_or set 0 0 ≤ 6) × (length set ≡ 7)
+    visit_size = set_size t given a₀ s r a h ripe set visit_row
 
-  pub visit_ready : (at : ℕ) → at + r.placements ≤ 6 * r.placements
-      → Ready t.query t.groups t.numbers t.edges t.block_base t.allow_base t.steps (take (get_or set 0 0 + 1 - 1) (drop 1 set)) (length (take (at + r.placements - at) (drop at a.lists)))
-  visit_ready at room =
-      ready t given a₀ s r a h ripe _ _ (members_are t given a₀ s r a h ripe set visit_row (get_or set 0 0) refl)
-      (place_long a.lists at r.placements _ (sums t given a₀ s r a h ripe).placements_are room (lists_long_lem t given a₀ s r a h ripe))
+    pub visit_ready : (at : ℕ) → at + r.placements ≤ 6 * r.placements
+        → Ready t.query t.groups t.numbers t.edges t.block_base t.allow_base t.steps (take (get_or set 0 0 + 1 - 1) (drop 1 set)) (length (take (at + r.placements - at) (drop at a.lists)))
+    visit_ready at room =
+        ready t given a₀ s r a h ripe _ _ (members_are t given a₀ s r a h ripe set visit_row (get_or set 0 0) refl)
+        (place_long a.lists at r.placements _ (sums t given a₀ s r a h ripe).placements_are room (lists_long_lem t given a₀ s r a h ripe))
 
-  module _ (x : answer.Explored) (at : ℕ) (list route route' : List ℕ)
-      (v : Evaluated (explore (board_in t) (take (get_or set 0 0 + 1 - 1) (drop 1 set))) x (take (at + r.placements - at) (drop at a.lists)) list route route')
-    where
-    abbrev k : ℕ
-    k = at + r.placements - at
+    module _ (x : answer.Explored) (at : ℕ) (list route route' : List ℕ)
+        (v : Evaluated (explore (board_in t) (take (get_or set 0 0 + 1 - 1) (drop 1 set))) x (take (at + r.placements - at) (drop at a.lists)) list route route')
+      where
+        abbrev k : ℕ
+        k = at + r.placements - at
 
-    ev : Evaluated (explore (board_in t) (set_on s.lists)) x (take k (drop at a.lists)) list route route'
-    ev = evaluated_as t given a₀ s r a h ripe set visit_row (get_or set 0 0) refl x (take k (drop at a.lists)) list route route' v
+        ev : Evaluated (explore (board_in t) (set_on s.lists)) x (take k (drop at a.lists)) list route route'
+        ev = evaluated_as t given a₀ s r a h ripe set visit_row (get_or set 0 0) refl x (take k (drop at a.lists)) list route route' v
 
-    module _ (m : ℕ) (e : x ≡ answer.TheVariants.Extend m) where
-      pub visit_pushes : (more : Record) → more ≡ entered_rec r → ((m ≡ 0 → ⊥) → more.lists < 6) × (m ≤ 6144)
-      visit_pushes more me = push_room t given a₀ s r a h ripe x at k list route route' ev m e more me
+        module _ (m : ℕ) (e : x ≡ answer.TheVariants.Extend m) where
+          pub visit_pushes : (more : Record) → more ≡ entered_rec r → ((m ≡ 0 → ⊥) → more.lists < 6) × (m ≤ 6144)
+          visit_pushes more me = push_room t given a₀ s r a h ripe x at k list route route' ev m e more me
 
-      pub visit_extend_route : route' ≡ route
-      visit_extend_route = extend_route t given a₀ s r a h ripe x at k list route route' ev m e
+          pub visit_extend_route : route' ≡ route
+          visit_extend_route = extend_route t given a₀ s r a h ripe x at k list route route' ev m e
 
-    module _ (m : ℕ) (e : x ≡ answer.TheVariants.Wall m) where
-      pub visit_wall_number : m ≡ length (take m route')
-      visit_wall_number = wall_number t given a₀ s r a h ripe x at k list route route' ev m e
+        module _ (m : ℕ) (e : x ≡ answer.TheVariants.Wall m) where
+          pub visit_wall_number : m ≡ length (take m route')
+          visit_wall_number = wall_number t given a₀ s r a h ripe x at k list route route' ev m e
 
-      pub visit_wall_long : m ≤ length route'
-      visit_wall_long = omega (arith, visit_wall_number, length-take m route')
+          pub visit_wall_long : m ≤ length route'
+          visit_wall_long = omega (arith, visit_wall_number, length-take m route')
 
-      pub visit_lists : (more : Record) → more ≡ entered_rec r → length route' ≡ centres t.query.window
-          → Listable more t.query.window a.layouts a.points (take m route')
-      visit_lists more me lp = listable t given a₀ s r a h ripe x at k list route route' ev set visit_row more me (over a.visited (r.evaluations * 7) set) refl m e lp
+          pub visit_lists : (more : Record) → more ≡ entered_rec r → length route' ≡ centres t.query.window
+              → Listable more t.query.window a.layouts a.points (take m route')
+          visit_lists more me lp = listable t given a₀ s r a h ripe x at k list route route' ev set visit_row more me (over a.visited (r.evaluations * 7) set) refl m e lp
 
-      pub visit_wiped : (c : ℕ) (wiped : List ℕ) → route ≡ replicate c 0 → length route' ≡ c → wiped ≡ zeros (length (take m route')) → wiped ++ drop m route' ≡ replicate c 0
-      visit_wiped c wiped clear long w =
-          route_wiped c m (take m route') route route' (wiped ++ drop m route') clear
-          (wall_route t given a₀ s r a h ripe x at k list route route' ev m e) visit_wall_number
-          (route_inside c m route' visit_wall_number long)
-          (ap (λ (q : List ℕ). q ++ drop m route') (w ∙ ap zeros (sym visit_wall_number)))
+          pub visit_wiped : (c : ℕ) (wiped : List ℕ) → route ≡ replicate c 0 → length route' ≡ c → wiped ≡ zeros (length (take m route')) → wiped ++ drop m route' ≡ replicate c 0
+          visit_wiped c wiped clear long w =
+              route_wiped c m (take m route') route route' (wiped ++ drop m route') clear
+              (wall_route t given a₀ s r a h ripe x at k list route route' ev m e) visit_wall_number
+              (route_inside c m route' visit_wall_number long)
+              (ap (λ (q : List ℕ). q ++ drop m route') (w ∙ ap zeros (sym visit_wall_number)))
 
-    pub visit_nothing_route : x ≡ answer.TheVariants.Nothing → route' ≡ route
-    visit_nothing_route e = nothing_route t given a₀ s r a h ripe x at k list route route' ev e
+        pub visit_nothing_route : x ≡ answer.TheVariants.Nothing → route' ≡ route
+        visit_nothing_route e = nothing_route t given a₀ s r a h ripe x at k list route route' ev e
 
-    -- ---- the arms
-    module _ (more : Record) (me : more ≡ entered_rec r) (va : List ℕ) (ve : va ≡ over a.visited (r.evaluations * 7) set) where
-      pub visit_nothing : x ≡ answer.TheVariants.Nothing → (q : Record) → LookedAt t.limits more q
-          → Holds t a₀ (advance (plan_in t) s) q (store_in (take at a.lists ++ (list ++ drop k (drop at a.lists))) va a.layouts a.points)
-      visit_nothing = arm_nothing t given a₀ s r a h ripe x at k list route route' ev set visit_row more me va ve
+        -- ---- the arms
+        module _ (more : Record) (me : more ≡ entered_rec r) (va : List ℕ) (ve : va ≡ over a.visited (r.evaluations * 7) set) where
+          pub visit_nothing : x ≡ answer.TheVariants.Nothing → (q : Record) → LookedAt t.limits more q
+              → Holds t a₀ (advance (plan_in t) s) q (store_in (take at a.lists ++ (list ++ drop k (drop at a.lists))) va a.layouts a.points)
+          visit_nothing = arm_nothing t given a₀ s r a h ripe x at k list route route' ev set visit_row more me va ve
 
-      pub visit_extend : (m : ℕ) → x ≡ answer.TheVariants.Extend m → (r.lists < 6 → at ≡ r.lists * r.placements) → (u q : Record)
-          → (m ≡ 0 → u ≡ more) × ((m ≡ 0 → ⊥) → u ≡ pushed_rec more m) → LookedAt t.limits u q
-          → Holds t a₀ (advance (plan_in t) s) q (store_in (take at a.lists ++ (list ++ drop k (drop at a.lists))) va a.layouts a.points)
-      visit_extend m e ea =
-          let n = (sums t given a₀ s r a h ripe).placements_are in
-          arm_extend t given a₀ s r a h ripe x at k list route route' ev set visit_row more me va ve m e
-          (place_at at r.placements _ n) (λ d. ea d ∙ ap (λ (j : ℕ). r.lists * j) n)
+          pub visit_extend : (m : ℕ) → x ≡ answer.TheVariants.Extend m → (r.lists < 6 → at ≡ r.lists * r.placements) → (u q : Record)
+              → (m ≡ 0 → u ≡ more) × ((m ≡ 0 → ⊥) → u ≡ pushed_rec more m) → LookedAt t.limits u q
+              → Holds t a₀ (advance (plan_in t) s) q (store_in (take at a.lists ++ (list ++ drop k (drop at a.lists))) va a.layouts a.points)
+          visit_extend m e ea =
+              let n = (sums t given a₀ s r a h ripe).placements_are in
+              arm_extend t given a₀ s r a h ripe x at k list route route' ev set visit_row more me va ve m e
+              (place_at at r.placements _ n) (λ d. ea d ∙ ap (λ (j : ℕ). r.lists * j) n)
 
-      pub visit_wall : (m : ℕ) → x ≡ answer.TheVariants.Wall m → (q : Record) (ya pa route'' : List ℕ)
-          → Listing t.limits more t.query.window set (take m route') q a.layouts a.points ya pa route''
-          → Holds t a₀ (advance (plan_in t) s) q (store_in (take at a.lists ++ (list ++ drop k (drop at a.lists))) va ya pa)
-      visit_wall = arm_wall t given a₀ s r a h ripe x at k list route route' ev set visit_row more me va ve
+          pub visit_wall : (m : ℕ) → x ≡ answer.TheVariants.Wall m → (q : Record) (ya pa route'' : List ℕ)
+              → Listing t.limits more t.query.window set (take m route') q a.layouts a.points ya pa route''
+              → Holds t a₀ (advance (plan_in t) s) q (store_in (take at a.lists ++ (list ++ drop k (drop at a.lists))) va ya pa)
+          visit_wall = arm_wall t given a₀ s r a h ripe x at k list route route' ev set visit_row more me va ve

@@ -114,7 +114,9 @@ pub fn steps(
         if found.reason != RUNNING {
             return found;
         }
-        r = visit(given, limits, steps, found, areas, lists, visited, layouts, points);
+        r = visit(
+            given, limits, steps, found, areas, lists, visited, layouts, points,
+        );
     }
     r
 }

@@ -44,7 +44,7 @@ beyond x h = let e : 0 ≡ 4294967295 - x = omega arith in sym (rw (signed_of, l
 pub edge_kept : (z : ℤ) (x : ℕ) → z ≡ signed_of x → to_z w32 (of_z w32 z) ≡ signed_of x
 edge_kept z x e = ap (λ (y : ℤ). to_z w32 (of_z w32 y)) e ∙ either (ltb x 4294967296) (λ t. below x (ltb-true x 4294967296 t))
     (λ t. let b : signed_of 4294967295 ≡ signed_of x = beyond x (ltb-false x 4294967296 t) in
-        subst (λ (s : ℤ). to_z w32 (of_z w32 s) ≡ s) b (below 4294967295 (omega arith)))
+    subst (λ (s : ℤ). to_z w32 (of_z w32 s) ≡ s) b (below 4294967295 (omega arith)))
   where
     below : (x : ℕ) → x < 4294967296 → to_z w32 (of_z w32 (signed_of x)) ≡ signed_of x
     below x lt = stays (signed_of x) x (sym (word_edge x lt)) lt

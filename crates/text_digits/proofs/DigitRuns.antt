@@ -180,7 +180,7 @@ store_next l before out k h r e =
     let v : ℕ = get_or l k 0 - 48 in
     let few : length done ≡ k = length-map (take k l) (λ c. c - 48) ∙ length-take-le k l (omega arith) in
     let next : map (λ c. c - 48) (take (k + 1) l) ≡ done ++ (v ∷ []) = ap (λ (n : ℕ). map (λ c. c - 48) (take n l)) (add-one k) ∙ ap (map (λ c. c - 48)) (take-suc l k 0 h)
-        ∙ map-append (λ c. c - 48) (take k l) (get_or l k 0 ∷ []) in
+    ∙ map-append (λ c. c - 48) (take k l) (get_or l k 0 ∷ []) in
     ap (λ (x : List ℕ). set x k v) (e ∙ ap (λ (x : List ℕ). done ++ x) (next_piece before k (omega arith)))
     ∙ set_at done (get_or before k 0) (drop (k + 1) before) v k few
     ∙ sym (append_assoc done (v ∷ []) (drop (k + 1) before))

@@ -152,5 +152,3 @@ module _ (p vs before : List ℕ) (at : ℕ) (out : List ℕ) (i j : ℕ) (left 
         put = put_then w.written (a ∷ []) before out (set out i a) at i (i + 1) w.put (put_byte a out i);
         room = w.room;
       }
-
-

@@ -2,11 +2,17 @@
 // crate that the call is handed on from.
 #![tactic(auto)]
 
-// What the calls are lent: a plan, the working areas, the areas that hold a search, and the same where they are only read.
-pub use call_lengths::Kept;
-pub use call_lengths::Store;
-pub use call_lengths::Work;
+// A plan: what a search or a judgement is given, the placements as a row of records.
 pub use walls_lent::Plan;
+
+// The working areas of a call.
+pub use call_lengths::Work;
+
+// The areas that hold a search.
+pub use call_lengths::Store;
+
+// The same areas where a call only reads them.
+pub use call_lengths::Kept;
 
 // The order of steps of the original, as a table.
 pub use route_table::original_steps;

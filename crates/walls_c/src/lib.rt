@@ -145,7 +145,14 @@ pub extern "C" fn hitrovzen_prepare(
         mover,
     };
     walls_told::number_of(&prepare_in(
-        &asked, steps, baseline, counts, map, queue, predecessors, route,
+        &asked,
+        steps,
+        baseline,
+        counts,
+        map,
+        queue,
+        predecessors,
+        route,
     ))
 }
 
@@ -315,10 +322,7 @@ pub extern "C" fn hitrovzen_begin(
         allow_right,
         allow_bottom,
     );
-    let limits = Limits {
-        states,
-        results,
-    };
+    let limits = Limits { states, results };
     let places = FlatPlaces {
         groups,
         numbers,
@@ -331,8 +335,20 @@ pub extern "C" fn hitrovzen_begin(
         allow_base,
     };
     walls_on::begin_on(
-        &given, limits, steps, rec, counts, map, queue, predecessors, route, lists, visited,
-        layouts, points, index,
+        &given,
+        limits,
+        steps,
+        rec,
+        counts,
+        map,
+        queue,
+        predecessors,
+        route,
+        lists,
+        visited,
+        layouts,
+        points,
+        index,
     )
 }
 
@@ -413,10 +429,7 @@ pub extern "C" fn hitrovzen_step(
         allow_right,
         allow_bottom,
     );
-    let limits = Limits {
-        states,
-        results,
-    };
+    let limits = Limits { states, results };
     let places = FlatPlaces {
         groups,
         numbers,
@@ -429,8 +442,21 @@ pub extern "C" fn hitrovzen_step(
         allow_base,
     };
     walls_on::step_on(
-        &given, limits, steps, rec, n, counts, map, queue, predecessors, route, lists, visited,
-        layouts, points, index,
+        &given,
+        limits,
+        steps,
+        rec,
+        n,
+        counts,
+        map,
+        queue,
+        predecessors,
+        route,
+        lists,
+        visited,
+        layouts,
+        points,
+        index,
     )
 }
 
@@ -506,10 +532,7 @@ pub extern "C" fn hitrovzen_read(
         allow_right,
         allow_bottom,
     );
-    let limits = Limits {
-        states,
-        results,
-    };
+    let limits = Limits { states, results };
     let places = FlatPlaces {
         groups,
         numbers,
@@ -613,7 +636,14 @@ pub extern "C" fn hitrovzen_judge(
         allow_base,
     };
     let judged = judge_in(
-        &given, steps, selection, counts, map, queue, predecessors, route,
+        &given,
+        steps,
+        selection,
+        counts,
+        map,
+        queue,
+        predecessors,
+        route,
     );
     *index = walls_told::index_of(&judged);
     *verdict = walls_told::verdict_in(judged);

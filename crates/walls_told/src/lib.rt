@@ -25,15 +25,7 @@ pub fn number_of<T>(answer: &Result<T, Refusal>) -> u32
 }
 
 // The index given with an answer, 0 where none is.
-#[tactic(
-    auto,
-    unfolding(
-        base_model::specs::Answers::reply_of,
-        base_model::specs::Answers::said_of,
-        base_model::specs::Answers::refusal,
-        call_read::specs::Told::index_in
-    )
-)]
+#[tactic(auto, unfolding(base_model::specs::Answers::reply_of, base_model::specs::Answers::said_of, base_model::specs::Answers::refusal, call_read::specs::Told::index_in))]
 pub fn index_of<T>(answer: &Result<T, Refusal>) -> u32
     ensures { result ≡ index_in (reply_of answer.now) }
 {
@@ -101,14 +93,7 @@ const NO_RANK: Rank = Rank {
 };
 
 // The rank, or three zeros.
-#[tactic(
-    auto,
-    unfolding(
-        rule_ranks::specs::Ranks::ranking_of,
-        walls_numbers::specs::Ranked::ranked_numbers,
-        walls_numbers::specs::Ranked::no_rank
-    )
-)]
+#[tactic(auto, unfolding(rule_ranks::specs::Ranks::ranking_of, walls_numbers::specs::Ranked::ranked_numbers, walls_numbers::specs::Ranked::no_rank))]
 pub fn rank_in(ranked: Result<Option<Rank>, Refusal>) -> Rank
     ensures { result ≡ ranked_numbers (ranking_of ranked) }
 {

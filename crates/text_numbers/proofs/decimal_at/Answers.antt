@@ -11,7 +11,8 @@ loop-i-init c = rw (c.from-v.ensures) (taking_first _ _ _ (omega arith) (omega a
 pub returns-then-v-eq0 : goal.returns-then-v-eq0
 returns-then-v-eq0 c = taking_stops _ _ _ _ _ c.loop-i.invariant (omega arith) (λ g. elim c.then-v-eq0.branch [
   | then-v-eq0-via-then-v-eq0 w ↦ omega (arith, g.positive)
-  | then-v-eq0-via-else-v-eq0+then-not-is_ascii_digit w ↦ omega (arith, g.low, g.high, w.if-not-is_ascii_digit.ensures.cases) ])
+  | then-v-eq0-via-else-v-eq0+then-not-is_ascii_digit w ↦ omega (arith, g.low, g.high, w.if-not-is_ascii_digit.ensures.cases)
+])
 
 pub returns-then-top-w : goal.returns-then-top-w
 returns-then-top-w c = taking_stops _ _ _ _ _ c.loop-i.invariant (omega arith) (λ g. omega (arith, g.below))

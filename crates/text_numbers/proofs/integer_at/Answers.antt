@@ -15,7 +15,8 @@ returns-then-b-s c = elim c.then-b-s.branch [
   | then-b-s-via-then-b-s w ↦ minus_short _ _ (omega arith) (omega arith) c.if-s-at-ne45.false
   | then-b-s-via-else-b-s+then-s-b-eq48 w ↦ minus_wrong _ _ (omega arith) c.if-s-at-ne45.false (λ g. omega arith)
   | then-b-s-via-else-b-s+else-s-b-eq48+then-not-is_ascii_digit w ↦
-      minus_wrong _ _ (omega arith) c.if-s-at-ne45.false (λ g. omega (arith, w.if-not-is_ascii_digit.ensures.cases)) ]
+      minus_wrong _ _ (omega arith) c.if-s-at-ne45.false (λ g. omega (arith, w.if-not-is_ascii_digit.ensures.cases))
+]
 
 pub overflow_sub-result : goal.overflow_sub-result
 overflow_sub-result c = let h = no_zero _ _ _ _ _ (omega arith) (let h = c.if-not-is_ascii_digit.ensures.cases in omega (arith, h)) c.decimal_at-r.ensures in omega (arith, h)

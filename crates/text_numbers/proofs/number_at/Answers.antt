@@ -10,4 +10,5 @@ returns-then-at-s c = elim c.then-at-s.branch [
   | then-at-s-via-else-at-s+then-not-is_ascii_digit w ↦ none_at _ _ _ (omega arith) (λ g. omega (arith, w.if-not-is_ascii_digit.ensures.cases))
   | then-at-s-via-else-at-s+else-not-is_ascii_digit+then-max-from w ↦
       (let h = w.if-not-is_ascii_digit.ensures.cases in
-      none_above _ _ _ (omega arith) (omega (arith, h)) (omega (arith, h)) (omega (arith, w.from.ensures))) ]
+      none_above _ _ _ (omega arith) (omega (arith, h)) (omega (arith, h)) (omega (arith, w.from.ensures)))
+]
