@@ -4,6 +4,7 @@
 
 ghost use Rattle.std.specs.Prelude.{◌≡◌, ℕ, ◌≤◌, length, List, ◌∷◌};
 ghost use Rattle.call_lengths.specs.Lent.{work_of};
+ghost use Rattle.call_lengths.specs.Same.{SameWork};
 ghost use Rattle.call_prepare.specs.Prepare.{preparation_in};
 ghost use Rattle.sheet_texts.specs.Parts.{enough, Front};
 ghost use Rattle.sheet_form.specs.Sheets.{Sheet};
@@ -56,12 +57,13 @@ pub fn allowed(
     out: &mut [u8],
 ) -> usize
     requires { enough ≤ length out.old }
-    ensures { (s : Sheet) (m : List ℕ) (ms : List (List ℕ))
+    ensures text { (s : Sheet) (m : List ℕ) (ms : List (List ℕ))
         → FlatAs s sheet.now
         → mover ≡ bounds_of m
         → Front
         (allow_text steps.now s (m ∷ ms) block_base.now (work_of work.old))
         out.old out.new result }
+    ensures same_work { SameWork work.old work.new }
 {
     let mut allow_base = [0u8; MOST_CENTRES];
     if let Err(refusal) = call_prepare::prepare(

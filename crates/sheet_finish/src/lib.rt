@@ -5,6 +5,7 @@ ghost use Rattle.std.specs.Prelude.{◌≡◌, ◌≤◌, length};
 ghost use Rattle.std.proofs.Math.Option.{none};
 ghost use Rattle.set_places.specs.Given.{inputs_in};
 ghost use Rattle.call_lengths.specs.Lent.{work_of, store_of_areas};
+ghost use Rattle.call_lengths.specs.Same.{SameWork, SameStore};
 ghost use Rattle.rule_calls.specs.Areas as areas;
 ghost use Rattle.sheet_texts.specs.Parts.{enough, Front, Writable};
 ghost use Rattle.sheet_texts.specs.Texts.{result_text};
@@ -38,10 +39,12 @@ pub fn finish(
     out: &mut [u8],
 ) -> usize
     requires { Steppable rec store.old.points.now out.old }
-    ensures { Front
+    ensures text { Front
         (step_text steps.now (inputs_in given.now) limits
         (record { answer = none; rec = rec; work = work_of work.old; store = store_of_areas store.old }))
         out.old out.new result }
+    ensures same_work { SameWork work.old work.new }
+    ensures same_store { SameStore store.old store.new }
 {
     match call_step::step(given, limits, steps, rec, limits.states, work, store) {
         Ok(end) => {

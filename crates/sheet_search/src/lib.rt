@@ -4,6 +4,7 @@
 ghost use Rattle.std.specs.Prelude.{◌≤◌, length};
 ghost use Rattle.set_places.specs.Given.{inputs_in};
 ghost use Rattle.call_lengths.specs.Lent.{work_of};
+ghost use Rattle.call_lengths.specs.Same.{SameWork};
 ghost use Rattle.rule_calls.specs.Calls.{begin_call};
 ghost use Rattle.sheet_texts.specs.Parts.{enough, Front};
 ghost use Rattle.sheet_rule.specs.Drive.{no_store, step_text};
@@ -22,10 +23,11 @@ pub fn search(
     out: &mut [u8],
 ) -> usize
     requires { enough ≤ length out.old }
-    ensures { Front
+    ensures text { Front
         (step_text steps.now (inputs_in given.now) limits
         (begin_call steps.now (inputs_in given.now) limits (work_of work.old) no_store))
         out.old out.new result }
+    ensures same_work { SameWork work.old work.new }
 {
     let mut lists = [0u16; SLOTS * MOST_PLACES];
     let mut visited = [0u16; ROW * MOST_STATES];

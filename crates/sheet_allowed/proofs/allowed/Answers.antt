@@ -11,9 +11,9 @@ use Rattle.sheet_allowed.proofs.allowed.Goals as goal
 pub write_refusal-requires : goal.write_refusal-requires
 write_refusal-requires c = omega (arith, c.requires)
 
-pub returns-in-Err : goal.returns-in-Err
+pub returns-in-Err-clause-text : goal.returns-in-Err-clause-text
 unfolding no_bytes reply_of
-returns-in-Err c =
+returns-in-Err-clause-text c =
     λ s m ms h e.
     allowed_refused _ s c.args.sheet.now h m ms c.args.mover e c.args.block_base.now (work_of c.args.work.now) _ _ _ _ _ c.in-Err.refusal
     (ap (λ q. prepare_call c.args.steps.now q no_bytes (work_of c.args.work.now)) (sym c.preparing.ensures) ∙ c.in-Err.ensures.call) c.requires c.write_refusal.ensures
@@ -21,9 +21,9 @@ returns-in-Err c =
 pub search-requires : goal.search-requires
 search-requires c = c.requires
 
-pub returns : goal.returns
+pub returns-clause-text : goal.returns-clause-text
 unfolding no_bytes reply_of
-returns c =
+returns-clause-text c =
     λ s m ms h e.
     allowed_searched _ s c.args.sheet.now h m ms c.args.mover e c.args.block_base.now (work_of c.args.work.now) _ _ _ _ _
-    (ap (λ q. prepare_call c.args.steps.now q no_bytes (work_of c.args.work.now)) (sym c.preparing.ensures) ∙ c.in_default.ensures.call) c.search.ensures
+    (ap (λ q. prepare_call c.args.steps.now q no_bytes (work_of c.args.work.now)) (sym c.preparing.ensures) ∙ c.in_default.ensures.call) c.search.ensures.text

@@ -13,9 +13,9 @@ use Rattle.sheet_finish.proofs.finish.Goals as goal
 pub write_refusal-requires : goal.write_refusal-requires
 write_refusal-requires c = omega (arith, c.requires.room)
 
-pub returns-in-Err : goal.returns-in-Err
+pub returns-in-Err-clause-text : goal.returns-in-Err-clause-text
 unfolding reply_of record_or
-returns-in-Err c =
+returns-in-Err-clause-text c =
     let a = c.args in
     finish_refused a.steps.now (inputs_in a.given.now) a.limits a.rec (work_of a.work.now) (store_of_areas a.store.now) _ _ _ _ _ _
     c.in-Err.refusal c.in-Err.ensures.call c.requires.room c.write_refusal.ensures
@@ -30,9 +30,9 @@ write_left-requires c =
       enough_in_bounds = c.requires.room;
     }
 
-pub returns-in-Ok : goal.returns-in-Ok
+pub returns-in-Ok-clause-text : goal.returns-in-Ok-clause-text
 unfolding reply_of record_or
-returns-in-Ok c =
+returns-in-Ok-clause-text c =
     let a = c.args in
     let s = store_of_areas c.step.new.store in
     finish_written a.steps.now (inputs_in a.given.now) a.limits a.rec (work_of a.work.now) (store_of_areas a.store.now) _ _ _ _ _ _ c.in-Ok.ensures.call

@@ -15,9 +15,9 @@ use Rattle.sheet_search.proofs.search.Goals as goal
 pub write_refusal-requires : goal.write_refusal-requires
 write_refusal-requires c = omega (arith, c.requires)
 
-pub returns-in-Err : goal.returns-in-Err
+pub returns-in-Err-clause-text : goal.returns-in-Err-clause-text
 unfolding no_store reply_of record_or
-returns-in-Err c =
+returns-in-Err-clause-text c =
     let a = c.args in
     let w = c.begin.new.work in
     let t = c.begin.new.store in
@@ -31,8 +31,8 @@ finish-requires c =
     let a = c.args in
     search_steppable a.steps.now (inputs_in a.given.now) a.limits (work_of a.work.now) no_store _ _ _ c.in-Ok.ensures.call _ (omega arith) c.requires
 
-pub returns-in-Ok : goal.returns-in-Ok
+pub returns-in-Ok-clause-text : goal.returns-in-Ok-clause-text
 unfolding no_store reply_of record_or
-returns-in-Ok c =
+returns-in-Ok-clause-text c =
     let a = c.args in
-    search_finished a.steps.now (inputs_in a.given.now) a.limits (work_of a.work.now) no_store _ _ _ c.in-Ok.ensures.call _ _ _ c.finish.ensures
+    search_finished a.steps.now (inputs_in a.given.now) a.limits (work_of a.work.now) no_store _ _ _ c.in-Ok.ensures.call _ _ _ c.finish.ensures.text
