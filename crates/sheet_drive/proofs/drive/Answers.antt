@@ -24,7 +24,7 @@ unfolding no_bytes no_work reply_of
 returns-in-Some c =
     λ s h. drive_allowed _ s c.args.sheet.now h _ _ _ _ _
     (ap (λ q. prepare_call c.args.steps.now q no_bytes no_work) (sym c.preparing.ensures) ∙ c.in_default.ensures.call)
-    c.in-Some.mover c.in-Some.is (λ m ms e. c.allowed.ensures s m ms h e)
+    c.in-Some.mover c.in-Some.is (λ m ms e. c.allowed.ensures.text s m ms h e)
 
 pub search-requires : goal.search-requires
 search-requires c = c.requires
@@ -33,4 +33,4 @@ pub returns : goal.returns
 unfolding no_bytes no_work reply_of
 returns c =
     λ s h. drive_nobody _ s c.args.sheet.now h _ _ _ _ _
-    (ap (λ q. prepare_call c.args.steps.now q no_bytes no_work) (sym c.preparing.ensures) ∙ c.in_default.ensures.call) c.in_default-allow.is c.search.ensures
+    (ap (λ q. prepare_call c.args.steps.now q no_bytes no_work) (sym c.preparing.ensures) ∙ c.in_default.ensures.call) c.in_default-allow.is c.search.ensures.text
