@@ -12,7 +12,7 @@ ghost use Rattle.set_places.specs.Given.{inputs_in};
 ghost use Rattle.call_lengths.specs.Lent.{work_of, store_of_areas};
 ghost use Rattle.call_lengths.specs.Same.{SameWork, SameStore};
 
-use base_model::{Limits, RUNNING, Record, Refusal, fresh_record};
+use base_model::{Limits, RUNNING, Record, Refusal, fresh_record, no_record};
 use call_checks::ask;
 use call_lengths::{Store, Work};
 use route_table::table_fits;
@@ -46,7 +46,7 @@ fn begin_checked(
 {
     call_clear::clear_work(given.query.window, work);
     call_movers::late_checks(given, steps, work)?;
-    let places = call_checks::place_count(&given.places);
+    let places = call_checks::place_count(given.places.numbers.len(), given.places.edges.len());
     call_clear::clear_store(given.query, limits, places, store);
     Ok(begun_record(places as u32))
 }
@@ -71,6 +71,18 @@ pub fn begin(
     ensures same_store { SameStore store.old store.new }
 {
     ask(table_fits(steps), Refusal::StepsInvalid)?;
-    call_checks::begin_checks(given, limits, work.lengths(), store.lengths())?;
+    let places = call_checks::place_count(given.places.numbers.len(), given.places.edges.len());
+    call_checks::begin_checks(given, limits, places, work.lengths(), store.lengths())?;
     begin_checked(given, limits, steps, work, store)
+}
+
+// The record that a beginning hands back: the begun search's, and where it was refused that of no search, all zero.
+#[tactic(auto, unfolding(rule_calls::specs::Calls::record_or, rule_calls::specs::Calls::no_record, base_model::specs::Records::fresh_record))]
+pub fn record_or_none(begun: Result<Record, Refusal>) -> Record
+    ensures { result ≡ record_or no_record begun }
+{
+    match begun {
+        Ok(rec) => rec,
+        Err(_) => no_record(),
+    }
 }

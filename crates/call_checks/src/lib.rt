@@ -1,7 +1,7 @@
 // The checks that the calls share.
 #![tactic(auto)]
 
-ghost use Rattle.std.specs.Prelude.{◌≡◌, true, ◌&&◌, ◌+◌, ◌*◌, ◌/◌, ◌≤◌, min, leb, length};
+ghost use Rattle.std.specs.Prelude.{◌≡◌, true, ◌&&◌, List, ℕ, ℤ, ◌+◌, ◌*◌, ◌/◌, ◌≤◌, min, leb, length};
 ghost use Rattle.std.specs.Option.{unwrap_or};
 ghost use Rattle.base_model.specs.Answers.{first, reply_of};
 ghost use Rattle.ground_rects.specs.Rects.{small};
@@ -10,7 +10,6 @@ ghost use Rattle.rule_layouts.specs.Flat.{placement_at, placements_of};
 ghost use Rattle.rule_layouts.specs.Inputs.{Inputs};
 ghost use Rattle.rule_calls.specs.Areas.{Work, Store, work_fits, store_fits};
 ghost use Rattle.rule_calls.specs.Calls.{begin_checks};
-ghost use Rattle.set_places.specs.Given.{inputs_in};
 ghost use Rattle.call_lengths.specs.Lengths.{WorkHas, StoreHas};
 ghost use Rattle.rule_calls.specs.Checks.{group_checks, limit_checks, placement_fits, place_checks};
 ghost use Rattle.call_checks.specs.Parts.{asked, groups_fit, allow_small, allow_long, frame_checks, area_checks, Misplaced};
@@ -138,18 +137,18 @@ pub fn check_areas(given: &Given<'_>, long: bool) -> Result<(), Refusal>
 }
 
 // How many placements stand whole in both rows.
-fn whole_places(places: &FlatPlaces<'_>) -> usize
-    ensures { result ≡ min (length places.now.numbers.now / 4) (length places.now.edges.now / 8) }
+fn whole_places(numbers: usize, edges: usize) -> usize
+    ensures { result ≡ min (numbers / 4) (edges / 8) }
 {
-    (places.numbers.len() / NUMBERS).min(places.edges.len() / EDGES)
+    (numbers / NUMBERS).min(edges / EDGES)
 }
 
-// How many placements are lent: a part left over in either row counts as one more.
-pub fn place_count(places: &FlatPlaces<'_>) -> usize
-    ensures { result ≡ length (placements_of places.now.numbers.now places.now.edges.now) }
+// How many placements are lent in rows of so many numbers and edges: a part left over in either row counts as one more.
+pub fn place_count(numbers: usize, edges: usize) -> usize
+    ensures { (ns : List ℕ) (es : List ℤ) → length ns ≡ numbers → length es ≡ edges → result ≡ length (placements_of ns es) }
 {
-    let whole = whole_places(places);
-    if places.numbers.len() == NUMBERS * whole && places.edges.len() == EDGES * whole {
+    let whole = whole_places(numbers, edges);
+    if numbers == NUMBERS * whole && edges == EDGES * whole {
         whole
     } else {
         whole + 1
@@ -183,12 +182,12 @@ pub fn check_places(window: Rect, places: &FlatPlaces<'_>) -> Result<(), Refusal
     ensures { (i : Inputs) → i.query.window ≡ window → i.groups ≡ places.now.groups.now
         → i.places ≡ placements_of places.now.numbers.now places.now.edges.now → reply_of result ≡ first (place_checks i) }
 {
-    let n = place_count(places);
+    let n = place_count(places.numbers.len(), places.edges.len());
     if n > PLACES {
         return Err(Refusal::TooManyPlacements);
     }
     // what is left over in the rows is one more placement, which does not pass
-    let whole = whole_places(places);
+    let whole = whole_places(places.numbers.len(), places.edges.len());
     let at = first_misplaced(window, places, whole).unwrap_or(whole);
     if at < n {
         return Err(Refusal::PlacementInvalid(at as u32));
@@ -212,20 +211,21 @@ fn room_for(
         && call_lengths::store_fits(query, limits, places, store)
 }
 
-// 10, 11, 12, 2, 3, 4 and 6, for areas of these lengths.
+// 10, 11, 12, 2, 3, 4 and 6, for so many placements and areas of these lengths. The rows of placements are not looked at.
 pub fn begin_checks(
     given: &Given<'_>,
     limits: Limits,
+    places: usize,
     work: WorkLengths,
     store: StoreLengths,
 ) -> Result<(), Refusal>
-    ensures { (w : Work) (s : Store) → WorkHas w work → StoreHas s store
-        → reply_of result ≡ first (begin_checks (inputs_in given.now) limits w s) }
+    ensures { (i : Inputs) (w : Work) (s : Store) → i.query ≡ given.now.query → i.groups ≡ given.now.places.groups.now
+        → length i.places ≡ places → i.block_base ≡ given.now.block_base.now → i.allow_base ≡ given.now.allow_base.now
+        → WorkHas w work → StoreHas s store → reply_of result ≡ first (begin_checks i limits w s) }
 {
     check_groups(given.places.groups)?;
     check_limits(limits)?;
     check_query(given.query)?;
-    let places = place_count(&given.places);
     let long = room_for(given.query, limits, places, work, store);
     check_areas(given, long)
 }

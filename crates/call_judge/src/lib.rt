@@ -44,7 +44,7 @@ fn judge_checks(given: &Given<'_>, selection: &[u16], room: WorkLengths) -> Resu
     call_checks::check_query(given.query)?;
     call_checks::check_areas(given, call_lengths::work_fits(window, room))?;
     call_checks::check_places(window, &given.places)?;
-    let count = call_checks::place_count(&given.places);
+    let count = call_checks::place_count(given.places.numbers.len(), given.places.edges.len());
     ask(selection_fits(selection, count), Refusal::SelectionInvalid)
 }
 

@@ -30,13 +30,13 @@ pub struct Store<'a> {
     pub points: &'a mut [u32],
 }
 
-// The same, where they are only read.
+// The same, where they are only read. The points are lent for a time of their own: a part of them that a call hands back holds these alone.
 #[derive(Clone, Copy)]
-pub struct Kept<'a> {
+pub struct Kept<'a, 'p> {
     pub lists: &'a [u16],
     pub visited: &'a [u16],
     pub layouts: &'a [u16],
-    pub points: &'a [u32],
+    pub points: &'p [u32],
 }
 
 // How many entries the working areas have.
@@ -87,7 +87,7 @@ impl Store<'_> {
     }
 
     // The areas as they stand, only to be read.
-    pub fn kept(&self) -> Kept<'_>
+    pub fn kept(&self) -> Kept<'_, '_>
         ensures { kept_in result ≡ store_of_areas self.now }
     {
         Kept {
@@ -99,7 +99,7 @@ impl Store<'_> {
     }
 }
 
-impl Kept<'_> {
+impl Kept<'_, '_> {
     // Their lengths.
     pub fn lengths(&self) -> StoreLengths
         ensures { StoreHas (kept_in self.now) result }

@@ -64,10 +64,14 @@ pub fn lists_fit(n: usize, places: &FlatPlaces<'_>, rec: Record, lists: &[u16]) 
     requires { Lists n places.now rec lists.now }
     ensures { result ≡ all_of (list_passes (places_at n places.now) rec lists.now) (below rec.lists) }
 {
+    // the two rows are copied alone: read by index in the record, they would have it copied whole, and the compiler would not see
+    // that there are at most six lists
+    let lengths = rec.lengths;
+    let nexts = rec.nexts;
     let mut members = [0u16; SLOTS];
     for k in 0..rec.lists as usize {
-        let length = rec.lengths[k] as usize;
-        let next = rec.nexts[k] as usize;
+        let length = lengths[k] as usize;
+        let next = nexts[k] as usize;
         if !head_fits(n, next, length, stood_on(rec, k)) {
             return false;
         }

@@ -29,12 +29,12 @@ use Rattle.call_passage.specs.Passages.{route_over, passage_over, PassageReady}
 
 -- ---- the three checks
 module _ (steps : List Step) (w : Rect) (start end : Position) (base : List ℕ) where
-  no_route_lem : open_in base (centre_at w start) ≡ true → open_in base (centre_at w end) ≡ true → is_some (route_over steps w start end base) ≡ false
+  pub no_route_lem : open_in base (centre_at w start) ≡ true → open_in base (centre_at w end) ≡ true → is_some (route_over steps w start end base) ≡ false
       → some (refusal 9) ≡ passage_over steps w start end base
   unfolding passage_over ask first
   no_route_lem d e f = rw (d, e, f) refl
 
-  a_route : open_in base (centre_at w start) ≡ true → open_in base (centre_at w end) ≡ true → is_some (route_over steps w start end base) ≡ true
+  pub a_route : open_in base (centre_at w start) ≡ true → open_in base (centre_at w end) ≡ true → is_some (route_over steps w start end base) ≡ true
       → none ≡ passage_over steps w start end base
   unfolding passage_over ask first
   a_route d e f = rw (d, e, f) refl
@@ -48,7 +48,7 @@ module _ (steps : List Step) (w : Rect) (start end : Position) (base : List ℕ)
       (unfold centres in centre_at_below w start i) r e).short
 
   -- the route fits into the window's centres
-  route_fits : window_fits 8192 8192 w ≡ true → in_window w start ≡ true → point_count (route_over steps w start end base) ≤ centres w
+  pub route_fits : window_fits 8192 8192 w ≡ true → in_window w start ≡ true → point_count (route_over steps w start end base) ≤ centres w
   route_fits h i = fits h i (route_over steps w start end base) refl
 
 -- an area of zeros is as it was when the route that was laid into it is cleared

@@ -27,7 +27,7 @@ module _ (a b : ℤ) (h : nat_abs a ≤ 268435456) (k : nat_abs b ≤ 268435456)
   factors : word a *ℤ word b ≡ a *ℤ b
   factors = ap₂ ◌*ℤ◌ (read a (omega arith)) (read b (omega arith))
 
-  product_read : word (word a *ℤ word b) ≡ a *ℤ b
+  pub product_read : word (word a *ℤ word b) ≡ a *ℤ b
   product_read = ap word factors ∙ read (a *ℤ b) (omega (arith, product_le))
 
 -- a square as an unsigned number

@@ -12,7 +12,7 @@ ghost use Rattle.call_lengths.specs.Lengths.{StoreHas};
 ghost use Rattle.call_lengths.specs.Lent.{kept_in};
 ghost use Rattle.call_record.specs.Given.{ChecksFound};
 ghost use Rattle.call_read.specs.Parts.{queried, lent, recorded};
-ghost use Rattle.call_read.specs.Told.{points_in, PartInside};
+ghost use Rattle.call_read.specs.Told.{points_in, told, number_in, index_in, PartInside};
 
 use base_model::{Limits, Query, Record, Refusal};
 use call_checks::ask;
@@ -34,7 +34,7 @@ fn check_lent(given: &Given<'_>, limits: Limits, room: StoreLengths) -> Result<(
     ensures { (a : Store) → StoreHas a room
         → reply_of result ≡ first (lent (inputs_in given.now) (store_fits (inputs_in given.now) limits a)) }
 {
-    let count = call_checks::place_count(&given.places);
+    let count = call_checks::place_count(given.places.numbers.len(), given.places.edges.len());
     let long = call_lengths::store_fits(given.query, limits, count, room);
     call_checks::check_areas(given, long)?;
     call_checks::check_places(given.query.window, &given.places)
@@ -46,7 +46,7 @@ fn check_recorded(
     limits: Limits,
     rec: Record,
     k: u32,
-    kept: &Kept<'_>,
+    kept: &Kept<'_, '_>,
 ) -> Result<(), Refusal>
     requires { ChecksFound given.now.query limits (length given.now.places.numbers.now / 4) given.now.places.groups.now
         given.now.places.numbers.now given.now.places.edges.now kept.now.lists.now kept.now.visited.now kept.now.layouts.now }
@@ -65,7 +65,7 @@ pub fn read_checks(
     limits: Limits,
     rec: Record,
     k: u32,
-    kept: &Kept<'_>,
+    kept: &Kept<'_, '_>,
 ) -> Result<(), Refusal>
     ensures { reply_of result ≡ first (read_checks (inputs_in given.now) limits rec k (kept_in kept.now)) }
 {
@@ -86,15 +86,17 @@ fn part_of<'a>(rec: Record, k: u32, points: &'a [u32]) -> &'a [u32]
 }
 
 // The allowed mover's route past layout k, as that part of the points area.
-pub fn read<'a>(
+pub fn read<'p>(
     given: &Given<'_>,
     limits: Limits,
     rec: Record,
     k: u32,
-    kept: &Kept<'a>,
-) -> Result<&'a [u32], Refusal>
-    ensures { read_call (inputs_in given.now) limits rec k (kept_in kept.now)
+    kept: &Kept<'_, 'p>,
+) -> Result<&'p [u32], Refusal>
+    ensures call { read_call (inputs_in given.now) limits rec k (kept_in kept.now)
         ≡ record { answer = reply_of result; points = points_in result } }
+    ensures numbers { told (read_call (inputs_in given.now) limits rec k (kept_in kept.now))
+        ≡ record { points = points_in result; answer = number_in (reply_of result); index = index_in (reply_of result) } }
 {
     read_checks(given, limits, rec, k, kept)?;
     Ok(part_of(rec, k, kept.points))

@@ -1,10 +1,10 @@
 // Check 16, on a record and the areas of its search.
 #![tactic(auto)]
 
-ghost use Rattle.std.specs.Prelude.{◌≡◌, ◌/◌, length};
+ghost use Rattle.std.specs.Prelude.{◌≡◌, List, ℕ, ◌/◌, length};
+ghost use Rattle.rule_layouts.specs.Flat.{inputs_of};
+ghost use Rattle.rule_calls.specs.Areas.{store_in};
 ghost use Rattle.rule_calls.specs.RecordCheck.{record_fits};
-ghost use Rattle.set_places.specs.Given.{inputs_in};
-ghost use Rattle.call_lengths.specs.Lent.{kept_in};
 ghost use Rattle.call_record.specs.Given.{ChecksFound};
 
 use base_model::{Limits, NUMBERS, Record, SLOTS};
@@ -17,10 +17,14 @@ use set_places::Given;
 const MOST_LISTS: u32 = SLOTS as u32;
 
 // Check 16 on what the checks before it have let pass.
-pub fn record_fits(given: &Given<'_>, limits: Limits, rec: Record, kept: &Kept<'_>) -> bool
+pub fn record_fits(given: &Given<'_>, limits: Limits, rec: Record, kept: &Kept<'_, '_>) -> bool
     requires { ChecksFound given.now.query limits (length given.now.places.numbers.now / 4) given.now.places.groups.now
         given.now.places.numbers.now given.now.places.edges.now kept.now.lists.now kept.now.visited.now kept.now.layouts.now }
-    ensures { result ≡ record_fits (inputs_in given.now) rec (kept_in kept.now) limits }
+    ensures { (block_base allow_base points : List ℕ) → result
+        ≡ record_fits
+        (inputs_of given.now.query given.now.places.groups.now given.now.places.numbers.now given.now.places.edges.now
+        block_base allow_base)
+        rec (store_in kept.now.lists.now kept.now.visited.now kept.now.layouts.now points) limits }
 {
     let n = given.places.numbers.len() / NUMBERS;
     let layouts = rec.layouts as usize;

@@ -22,12 +22,13 @@ fn step_checks(
     limits: Limits,
     rec: Record,
     work: WorkLengths,
-    kept: &Kept<'_>,
+    kept: &Kept<'_, '_>,
 ) -> Result<(), Refusal>
     ensures { (w : areas.Work) → WorkHas w work
         → reply_of result ≡ first (step_checks (inputs_in given.now) limits rec w (kept_in kept.now)) }
 {
-    call_checks::begin_checks(given, limits, work, kept.lengths())?;
+    let places = call_checks::place_count(given.places.numbers.len(), given.places.edges.len());
+    call_checks::begin_checks(given, limits, places, work, kept.lengths())?;
     call_checks::check_places(given.query.window, &given.places)?;
     ask(
         call_record::record_fits(given, limits, rec, kept),

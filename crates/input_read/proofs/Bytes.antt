@@ -51,7 +51,7 @@ module _ (at : ℕ) (before after : Option (List ℕ)) (xs ys : List ℕ) (insid
   whole_part = length-take-le (length xs - at) (drop at xs) (omega (arith, length-drop at xs))
 
   -- a read that put n bytes
-  came : (z : Option ℕ) (n : ℕ) (r : Arrival) → z ≡ Some n → r ≡ takes (length xs) (Going at) z → length ys ≡ length (take (length xs - at) (drop at xs)) → n ≤ length ys
+  pub came : (z : Option ℕ) (n : ℕ) (r : Arrival) → z ≡ Some n → r ≡ takes (length xs) (Going at) z → length ys ≡ length (take (length xs - at) (drop at xs)) → n ≤ length ys
       → Consumes before after (take n ys) → (n ≡ 0 → 0 < length ys → IsAtEnd after) → ReadOn at before after xs put r
   unfolding takes
   came z n r p e l h k end = subst (ReadOn at before after xs put) (sym (e ∙ ap (takes (length xs) (Going at)) p))
@@ -67,7 +67,7 @@ module _ (at : ℕ) (before after : Option (List ℕ)) (xs ys : List ℕ) (insid
           (refl, stays, subst (λ (m : ℕ). Consumes before after (take m ys)) none_came k, end none_came (omega (arith, l, whole_part)))
 
   -- a read that failed
-  failed : (z : Option ℕ) (r : Arrival) (area' : List ℕ) → z ≡ None → r ≡ takes (length xs) (Going at) z → ReadOn at before after xs area' r
+  pub failed : (z : Option ℕ) (r : Arrival) (area' : List ℕ) → z ≡ None → r ≡ takes (length xs) (Going at) z → ReadOn at before after xs area' r
   unfolding takes
   failed z r area' p e = subst (ReadOn at before after xs area') (sym (e ∙ ap (takes (length xs) (Going at)) p)) tt
 

@@ -28,10 +28,24 @@ pub const LAYOUTS_LENGTH: usize = ROW * LAYOUTS;
 
 pub const POINTS_LENGTH: usize = 2 * 4 * MOST_CENTRES;
 
+pub type Marks = [u8; MOST_CENTRES];
+
+pub type Centres = [u32; MOST_CENTRES];
+
+pub type Counts = [i32; MOST_COUNTS];
+
+pub type Lists = [u16; LISTS_LENGTH];
+
+pub type Visited = [u16; VISITED_LENGTH];
+
+pub type Layouts = [u16; LAYOUTS_LENGTH];
+
+pub type Points = [u32; POINTS_LENGTH];
+
 // Prepares a mover; prints the answer and the baseline's digest. Answers whether the mover was prepared.
 pub fn prepare_mover<W: Write>(
     out: &mut W,
-    name: &str,
+    name: &[u8],
     search: &Search<'_>,
     mover: Bounds,
     steps: &[i32],
@@ -50,7 +64,7 @@ pub fn prepare_mover<W: Write>(
         mover,
     };
     let answer = call_prepare::prepare(&asked, steps, baseline, work);
-    write!(out, "{name}")?;
+    out.write_all(name)?;
     answers::say_answer(out, &answer)?;
     if answers::writes(&answer) {
         write!(out, " {}", say::digest(0, baseline, search.centres))?;
@@ -102,7 +116,7 @@ fn read_one<W: Write>(
     search: &Search<'_>,
     given: &Given<'_>,
     rec: Record,
-    kept: &Kept<'_>,
+    kept: &Kept<'_, '_>,
 ) -> io::Result<()> {
     write!(out, "layout {k}")?;
     let mut route: &[u32] = &[];
@@ -131,7 +145,7 @@ pub fn read_all<W: Write>(
     search: &Search<'_>,
     given: &Given<'_>,
     rec: Record,
-    kept: &Kept<'_>,
+    kept: &Kept<'_, '_>,
 ) -> io::Result<()> {
     for k in 0..LAYOUTS as u32 + 1 {
         read_one(out, k, search, given, rec, kept)?;

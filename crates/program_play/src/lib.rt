@@ -56,10 +56,10 @@ pub fn search_for<W: Write>(
         return search_on(out, search, bases, steps, work, store);
     }
     let query = search.query;
-    let fine = prepare_mover(out, "block", search, query.block, steps, block, work)?;
+    let fine = prepare_mover(out, b"block", search, query.block, steps, block, work)?;
     let also = match query.allow {
         None => true,
-        Some(mover) => prepare_mover(out, "allow", search, mover, steps, allow, work)?,
+        Some(mover) => prepare_mover(out, b"allow", search, mover, steps, allow, work)?,
     };
     if fine && also {
         return search_on(out, search, Bases { block, allow }, steps, work, store);

@@ -4,7 +4,8 @@
 use call_lengths::{Store, Work};
 use input_arrival::Arrival;
 use program_calls::{
-    LAYOUTS_LENGTH, LISTS_LENGTH, MOST_CENTRES, MOST_COUNTS, POINTS_LENGTH, VISITED_LENGTH,
+    Centres, Counts, LAYOUTS_LENGTH, LISTS_LENGTH, Layouts, Lists, MOST_CENTRES, MOST_COUNTS,
+    Marks, POINTS_LENGTH, Points, VISITED_LENGTH, Visited,
 };
 use program_words::words::Line;
 use std::io;
@@ -43,10 +44,10 @@ fn answer_input<R: Read, W: Write>(
     block: &mut [u8],
     allow: &mut [u8],
     work: &mut Work<'_>,
-    lists: &mut [u16; LISTS_LENGTH],
-    visited: &mut [u16; VISITED_LENGTH],
-    layouts: &mut [u16; LAYOUTS_LENGTH],
-    points: &mut [u32; POINTS_LENGTH],
+    lists: &mut Lists,
+    visited: &mut Visited,
+    layouts: &mut Layouts,
+    points: &mut Points,
 ) -> io::Result<()> {
     let input = input_read::read_all(reader, text);
     let mut store = Store {
@@ -60,17 +61,17 @@ fn answer_input<R: Read, W: Write>(
 
 fn main(rt: HostRuntime) -> io::Result<()> {
     let mut text = [0u8; MOST_BYTES];
-    let mut block = [0u8; MOST_CENTRES];
-    let mut allow = [0u8; MOST_CENTRES];
-    let mut counts = [0i32; MOST_COUNTS];
-    let mut map = [0u8; MOST_CENTRES];
-    let mut queue = [0u32; MOST_CENTRES];
-    let mut predecessors = [0u32; MOST_CENTRES];
-    let mut route = [0u32; MOST_CENTRES];
-    let mut lists = [0u16; LISTS_LENGTH];
-    let mut visited = [0u16; VISITED_LENGTH];
-    let mut layouts = [0u16; LAYOUTS_LENGTH];
-    let mut points = [0u32; POINTS_LENGTH];
+    let mut block: Marks = [0; MOST_CENTRES];
+    let mut allow: Marks = [0; MOST_CENTRES];
+    let mut counts: Counts = [0; MOST_COUNTS];
+    let mut map: Marks = [0; MOST_CENTRES];
+    let mut queue: Centres = [0; MOST_CENTRES];
+    let mut predecessors: Centres = [0; MOST_CENTRES];
+    let mut route: Centres = [0; MOST_CENTRES];
+    let mut lists: Lists = [0; LISTS_LENGTH];
+    let mut visited: Visited = [0; VISITED_LENGTH];
+    let mut layouts: Layouts = [0; LAYOUTS_LENGTH];
+    let mut points: Points = [0; POINTS_LENGTH];
     let mut work = Work {
         counts: &mut counts,
         map: &mut map,

@@ -19,7 +19,7 @@ pub fn show<W: Write>(
     out: &mut W,
     rec: &Record,
     search: &Search<'_>,
-    kept: &Kept<'_>,
+    kept: &Kept<'_, '_>,
 ) -> io::Result<()> {
     let limits = search.limits;
     let places = search.places.numbers.len() / NUMBERS;
@@ -61,8 +61,10 @@ pub fn writes(answer: &Result<(), Refusal>) -> bool {
 
 // The members of row k: its length, at most 6, and so many entries; none where there is no such row.
 pub fn members(rows: &[u16], k: usize) -> &[u16] {
-    match rows.chunks_exact(ROW).nth(k) {
-        Some([n, slots @ ..]) => slots.get(..*n as usize).unwrap_or(&[]),
-        _ => &[],
+    if rows.len() / ROW <= k {
+        return &[];
     }
+    let from = ROW * k + 1;
+    let slots = &rows[from..from + SLOTS];
+    slots.get(..rows[from - 1] as usize).unwrap_or(&[])
 }

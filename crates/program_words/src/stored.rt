@@ -1,7 +1,7 @@
 // A stored search: what it is given beside the areas, as the numbers of a line say it.
 ghost use Rattle.std.specs.Prelude.{◌≤◌};
 
-use crate::words::Line;
+use crate::words::{Line, at, count_at};
 use base_model::{Bounds, EDGES, Limits, NUMBERS, Position, Query, ROW, Rect, SIDES};
 use set_places::{FlatPlaces, Given};
 
@@ -46,7 +46,7 @@ const POINTS_AT: usize = 29;
 const GIVEN_AT: usize = 30;
 
 // Where the runs begin.
-const RUNS: usize = 31;
+pub const RUNS: usize = 31;
 
 // The movers' baselines.
 #[derive(Clone, Copy)]
@@ -117,33 +117,93 @@ fn query_of(line: &Line) -> Query {
     }
 }
 
+// How many centres each baseline that is handed in has: none where none is.
+fn given_of(unsigned: &[u32]) -> usize
+    ensures { result ≤ 4096 }
+{
+    if at(unsigned, GIVEN_AT) == 0 {
+        return 0;
+    }
+    count_at(unsigned, CENTRES_AT)
+}
+
+// The same for the allowed mover.
+fn given_too(unsigned: &[u32]) -> usize
+    ensures { result ≤ 4096 }
+{
+    if at(unsigned, ALLOW_AT) == 0 {
+        return 0;
+    }
+    given_of(unsigned)
+}
+
+// The place after each run of a line.
+#[derive(Clone, Copy)]
+pub struct Ends {
+    pub cells: usize,
+    pub obstacles: usize,
+    pub groups: usize,
+    pub numbers: usize,
+    pub edges: usize,
+    pub portions: usize,
+    pub selections: usize,
+    pub block: usize,
+    pub allow: usize,
+}
+
+// The runs stand one after the other, each as long as the line says.
+pub fn ends_of(unsigned: &[u32]) -> Ends
+    ensures { (31 ≤ result.cells)
+        × (result.cells ≤ result.obstacles)
+        × (result.obstacles ≤ result.groups)
+        × (result.groups ≤ result.numbers)
+        × (result.numbers ≤ result.edges)
+        × (result.edges ≤ result.portions)
+        × (result.portions ≤ result.selections)
+        × (result.selections ≤ result.block)
+        × (result.block ≤ result.allow)
+        × (result.allow ≤ 200000) }
+{
+    let places = count_at(unsigned, PLACES_AT);
+    let cells = RUNS + count_at(unsigned, CELLS_AT);
+    let obstacles = cells + SIDES * count_at(unsigned, OBSTACLES_AT);
+    let groups = obstacles + count_at(unsigned, GROUPS_AT);
+    let numbers = groups + NUMBERS * places;
+    let edges = numbers + EDGES * places;
+    let portions = edges + count_at(unsigned, PORTIONS_AT);
+    let selections = portions + ROW * count_at(unsigned, SELECTIONS_AT);
+    let block = selections + given_of(unsigned);
+    Ends {
+        cells,
+        obstacles,
+        groups,
+        numbers,
+        edges,
+        portions,
+        selections,
+        block,
+        allow: block + given_too(unsigned),
+    }
+}
+
 impl<'a> Search<'a> {
     // The search of a line, whose runs stand one after the other, each as long as the line says; none where they do not fill the line.
     pub fn of(line: &'a Line) -> Option<Search<'a>> {
-        let query = query_of(line);
-        let is_given = line.at(GIVEN_AT) != 0;
-        let centres = if is_given {
-            line.count_at(CENTRES_AT)
-        } else {
-            0
-        };
-        let places = line.count_at(PLACES_AT);
-        let cells = RUNS + line.count_at(CELLS_AT);
-        let obstacles = cells + SIDES * line.count_at(OBSTACLES_AT);
-        let groups = obstacles + line.count_at(GROUPS_AT);
-        let numbers = groups + NUMBERS * places;
-        let edges = numbers + EDGES * places;
-        let portions = edges + line.count_at(PORTIONS_AT);
-        let selections = portions + ROW * line.count_at(SELECTIONS_AT);
-        let block = selections + centres;
-        let allow = if query.allow.is_some() {
-            block + centres
-        } else {
-            block
-        };
+        let Ends {
+            cells,
+            obstacles,
+            groups,
+            numbers,
+            edges,
+            portions,
+            selections,
+            block,
+            allow,
+        } = ends_of(line.unsigned());
         if line.count() != allow {
             return None;
         }
+        let is_given = line.at(GIVEN_AT) != 0;
         let bases = Bases {
             block: line.bytes().get(selections..block)?,
             allow: line.bytes().get(block..allow)?,
@@ -154,7 +214,7 @@ impl<'a> Search<'a> {
             down: line.at(DOWN_AT),
             cells: line.bytes().get(RUNS..cells)?,
             obstacles: line.signed().get(cells..obstacles)?,
-            query,
+            query: query_of(line),
             limits: Limits {
                 states: line.at(STATES_AT),
                 results: line.at(RESULTS_AT),

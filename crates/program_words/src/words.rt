@@ -124,7 +124,7 @@ impl Line {
 
     // The number at a place, 0 where there is none.
     pub fn at(&self, i: usize) -> u32 {
-        self.unsigned().get(i).copied().unwrap_or(0)
+        at(self.unsigned(), i)
     }
 
     pub fn edge_at(&self, i: usize) -> i32 {
@@ -135,6 +135,18 @@ impl Line {
     pub fn count_at(&self, i: usize) -> usize
         ensures { result ≤ 4096 }
     {
-        MOST_NUMBERS.min(self.at(i) as usize)
+        count_at(self.unsigned(), i)
     }
+}
+
+// The number at a place, 0 where there is none.
+pub fn at(xs: &[u32], i: usize) -> u32 {
+    xs.get(i).copied().unwrap_or(0)
+}
+
+// The number at a place as a count, at most 4,096.
+pub fn count_at(xs: &[u32], i: usize) -> usize
+    ensures { result ≤ 4096 }
+{
+    MOST_NUMBERS.min(at(xs, i) as usize)
 }

@@ -29,7 +29,7 @@ same_self : (a : ℤ) → eq_z a a ≡ true
 unfolding eq_z
 same_self a = both_true (fact_le_z a a (omega arith)) (fact_le_z a a (omega arith))
 
-met : (x y a b : ℤ) → a ≡ x → b ≡ y → same_step (step_by x y) (step_by a b) ≡ true
+pub met : (x y a b : ℤ) → a ≡ x → b ≡ y → same_step (step_by x y) (step_by a b) ≡ true
 unfolding same_step step_by
 met x y a b e k = rw (e, k) (both_true (same_self x) (same_self y))
 

@@ -32,7 +32,7 @@ pub record Place (k n : ℕ) (a : List ℕ) : Type 0 where
   pub low : k < 6
 
 module _ (a₀ : List ℕ) (n m : ℕ) (ls : List ℕ) (k : ℕ) (a : List ℕ) (p : ListsIn a₀ ls m n) (c : Swept a₀ n m ls k a) where
-  swept_place : k < m → Place k n a
+  pub swept_place : k < m → Place k n a
   swept_place h =
       let d = p.deep in let w = p.long in let s = p.small in let t = c.kept in
       let y = suc-mul k n in

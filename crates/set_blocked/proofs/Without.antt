@@ -16,12 +16,12 @@ use Rattle.std.specs.Prelude as std
 use Rattle.std.specs.Option.{option_eq}
 use Rattle.set_blocked.specs.Blocked.{without_at, left_by}
 
-without_at_none : (k : ℕ) → without_at k [] ≡ []
+pub without_at_none : (k : ℕ) → without_at k [] ≡ []
 unfolding without_at
 without_at_none k = refl
 
 -- member number k taken, the rest stays
-without_at_skip : (k : ℕ) (s : List ℕ) → without_at k (take (suc k) s) ≡ without_at k (take k s)
+pub without_at_skip : (k : ℕ) (s : List ℕ) → without_at k (take (suc k) s) ≡ without_at k (take k s)
 unfolding without_at
 without_at_skip zero [] = refl
 without_at_skip (suc k) [] = refl
@@ -29,7 +29,7 @@ without_at_skip zero (x ∷ s) = refl
 without_at_skip (suc k) (x ∷ s) = ap (λ (l : List ℕ). x ∷ l) (without_at_skip k s)
 
 -- any other member joins
-without_at_more : (k j : ℕ) (s : List ℕ) → (j ≡ k → ⊥) → j < length s → without_at k (take (suc j) s) ≡ without_at k (take j s) ++ (get_or s j 0 ∷ [])
+pub without_at_more : (k j : ℕ) (s : List ℕ) → (j ≡ k → ⊥) → j < length s → without_at k (take (suc j) s) ≡ without_at k (take j s) ++ (get_or s j 0 ∷ [])
 unfolding without_at
 without_at_more k j [] n h = absurd (not-suc-le-zero h)
 without_at_more zero zero (x ∷ s) n h = absurd (n refl)

@@ -6,12 +6,14 @@ use mathlib.Core.Path.{◌≡◌, refl, sym, ap, ◌∙◌, subst}
 use mathlib.Core.Bool.{Bool, true, false, ◌&&◌}
 use mathlib.Core.Option.{Option, none, some, none-ne-some}
 use mathlib.Core.List.{List, ◌++◌}
+use lib.IntN.{ℤ}
 use lib.ListN.{length, take, drop}
 use lib.Seq.{take_at}
 use Rattle.base_laws.proofs.Members.{either}
-use Rattle.rule_routes.specs.Edges.{steps_of}
+use Rattle.base_model.specs.declared.Query.{Query}
+use Rattle.rule_routes.specs.Edges.{Step, steps_of}
 use Rattle.rule_routes.proofs.RouteTheorem.{route_blocked}
-use Rattle.rule_layouts.specs.Boards.{Board, leaves_open, open_ends, route_past}
+use Rattle.rule_layouts.specs.Boards.{Mover, Board, leaves_open, open_ends, route_past}
 use Rattle.rule_layouts.specs.Explore.{Outcome, Nothing, Extend, Wall, extensions, is_minimal_block, allowed_route, wall_by, explore}
 use Rattle.route_find.specs.Results.{counted, laid_into}
 use Rattle.set_extend.specs.Join.{ListWritten}
@@ -27,15 +29,15 @@ use Rattle.set_explore.specs.Evaluation.{outcome_of, outcome_number, size_of, li
 
 -- ---- the evaluation, case by case
 module _ (g : Board) (s : List ℕ) where
-  explore_blocked : open_ends g g.block s ≡ false → explore g s ≡ Nothing
+  pub explore_blocked : open_ends g g.block s ≡ false → explore g s ≡ Nothing
   unfolding explore
   explore_blocked e = rw (explore, e)
 
-  explore_spare : open_ends g g.block s ≡ true → route_past g g.block s ≡ none → is_minimal_block g s ≡ false → explore g s ≡ Nothing
+  pub explore_spare : open_ends g g.block s ≡ true → route_past g g.block s ≡ none → is_minimal_block g s ≡ false → explore g s ≡ Nothing
   unfolding explore
   explore_spare e n f = rw (explore, e, n, f)
 
-  explore_wall : open_ends g g.block s ≡ true → route_past g g.block s ≡ none → is_minimal_block g s ≡ true → explore g s ≡ wall_by g (allowed_route g s)
+  pub explore_wall : open_ends g g.block s ≡ true → route_past g g.block s ≡ none → is_minimal_block g s ≡ true → explore g s ≡ wall_by g (allowed_route g s)
   unfolding explore
   explore_wall e n f = rw (explore, e, n, f)
 
@@ -56,7 +58,7 @@ unfoldable pub wall_answer : std.Option ℕ → answer.Explored
 wall_answer None = answer.TheVariants.Nothing
 wall_answer (Some n) = answer.TheVariants.Wall n
 
-eval_wall : (g : Board) (o : Outcome ℕ) (a : Option (List ℕ)) (r : std.Option ℕ) (list route route' : List ℕ) → o ≡ wall_by g a → r ≡ counted a → route' ≡ laid_into a route
+pub eval_wall : (g : Board) (o : Outcome ℕ) (a : Option (List ℕ)) (r : std.Option ℕ) (list route route' : List ℕ) → o ≡ wall_by g a → r ≡ counted a → route' ≡ laid_into a route
     → Evaluated o (wall_answer r) list list route route'
 unfolding wall_answer outcome_of outcome_number size_of list_after route_after counted laid_into wall_by
 eval_wall g o none r list route route' e t l = rw (e, t) (record { is = refl; number = refl; listed = refl; laid = l })
@@ -74,20 +76,29 @@ eval_extend o es list list' route route' k e l p =
       laid = p;
     })
 
+-- ---- over placements lent flat
+module _ (q : Query) (start end n : ℕ) (groups numbers : List ℕ) (edges : List ℤ) (block_base allow_base : List ℕ) (steps : List Step) where
+  abbrev flat : Board
+  flat = flat_board q start end n groups numbers edges block_base allow_base steps
+
+  pub flat_past : (m : Mover) (s : List ℕ) → route_past flat m s ≡ passed q.window steps start end m s
+  unfolding route_past flat_board passed
+  flat_past m s = refl
+
 -- ---- on a ground
 module _ (g : Ground) (i : Given) (n : ℕ) where
   abbrev board : Board
   board = board_on g i n
 
-  pub flat_past : (s : List ℕ) → route_past board board.block s ≡ block_past g i s
+  pub flat_block : (s : List ℕ) → route_past board board.block s ≡ block_past g i s
   unfolding route_past flat_board passed
-  flat_past s = refl
+  flat_block s = refl
 
   pub flat_minimal : (s : List ℕ) → is_minimal_block board s ≡ minimal g.window (steps_of g.steps.now) g.start g.end (block_on g i) s
   unfolding is_minimal_block route_past flat_board minimal passed
   flat_minimal s = refl
 
-  flat_allowed : (s : List ℕ) → allowed_route board s ≡ allowed_on g (allow_given g i) s
+  pub flat_allowed : (s : List ℕ) → allowed_route board s ≡ allowed_on g (allow_given g i) s
   unfolding allowed_route route_past flat_board passed
   flat_allowed s = past_cases g.window (steps_of g.steps.now) g.start g.end s board.allow
 
@@ -103,7 +114,7 @@ module _ (g : Ground) (i : Given) (n : ℕ) where
     module _ (k : ends ≡ true) (p : block_past g i s ≡ none) where
       pub eval_spare : minimal g.window (steps_of g.steps.now) g.start g.end (block_on g i) s ≡ false → (list : List ℕ) {route route' : List ℕ} → route' ≡ route
           → Evaluated (explore board s) answer.TheVariants.Nothing list list route route'
-      eval_spare t list {route} {route'} l = eval_nothing (explore board s) list route route' (explore_spare board s (ends_past ∙ k) (flat_past s ∙ p) (flat_minimal s ∙ t)) l
+      eval_spare t list {route} {route'} l = eval_nothing (explore board s) list route route' (explore_spare board s (ends_past ∙ k) (flat_block s ∙ p) (flat_minimal s ∙ t)) l
 
       -- where every lift gives a route, the allowed mover decides
       pub eval_walled : minimal g.window (steps_of g.steps.now) g.start g.end (block_on g i) s ≡ true → {r : std.Option ℕ} (x : answer.Explored) → wall_answer r ≡ x → (list : List ℕ)
@@ -111,5 +122,5 @@ module _ (g : Ground) (i : Given) (n : ℕ) where
       eval_walled t {r} x q list {route} {route₁} {route₂} l w =
           subst (λ (y : answer.Explored). Evaluated (explore board s) y list list route route₂) q
           (eval_wall board (explore board s) (allowed_on g (allow_given g i) s) r list route route₂
-          (explore_wall board s (ends_past ∙ k) (flat_past s ∙ p) (flat_minimal s ∙ t) ∙ ap (wall_by board) (flat_allowed s)) w.count
+          (explore_wall board s (ends_past ∙ k) (flat_block s ∙ p) (flat_minimal s ∙ t) ∙ ap (wall_by board) (flat_allowed s)) w.count
           (w.laid ∙ ap (laid_into (allowed_on g (allow_given g i) s)) l))

@@ -28,7 +28,7 @@ use Rattle.set_pass.specs.Lent.{block_on, block_past}
 use Rattle.set_pass.proofs.Routed.{laid_by, free_written}
 use Rattle.set_explore.specs.declared.Explored as answer
 use Rattle.set_explore.specs.Evaluation.{Evaluated, board_on}
-use Rattle.set_explore.proofs.Evaluating.{explore_route, eval_extend, flat_past}
+use Rattle.set_explore.proofs.Evaluating.{explore_route, eval_extend, flat_block}
 
 pub trail_of : (w : Rect) (steps : List Step) (start end : ℕ) (m : Mover) (s r : List ℕ) → each_once steps ≡ true → start < centres w → passed w steps start end m s ≡ some r → Trail w steps r
 unfolding passed centres
@@ -55,6 +55,6 @@ module _ (g : Ground) (i : Given) (n : ℕ) (s : List ℕ) where
       let found_in = es steps (subst (λ (x : List ℕ). Trail g.window steps x) (sym l.first) trail) in
       eval_extend (explore (board_on g i n) s)
       (extending (places_at n g.places) g.places.edges.now i.query.block g.window steps s l.points) list list' route route₂ found
-      (explore_route (board_on g i n) s l.points (flat_past g i n s ∙ l.is) ∙ ap Extend (flat_extensions l.points))
+      (explore_route (board_on g i n) s l.points (flat_block g i n s ∙ l.is) ∙ ap Extend (flat_extensions l.points))
       (subst (λ (x : List ℕ). ListWritten (extending (places_at n g.places) g.places.edges.now i.query.block g.window steps s x) list list' found) l.first found_in)
       kept

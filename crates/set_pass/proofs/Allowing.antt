@@ -21,7 +21,7 @@ use Rattle.set_pass.specs.Maps.{map_after_allowed}
 use Rattle.set_pass.specs.Allowed.{Allowed}
 use Rattle.set_pass.proofs.Routed.{laid_by}
 
-allowed_none : (route : List ℕ) → Allowed (some []) (Some 0) route route
+pub allowed_none : (route : List ℕ) → Allowed (some []) (Some 0) route route
 unfolding counted laid_into
 allowed_none route = record { count = refl; laid = refl }
 

@@ -30,7 +30,7 @@ open_bit true = refl
 open_bit false = refl
 
 -- a byte of the map is zero where the set leaves the centre open
-open_is : (m : Mover) (n : ℕ) (s cells : List ℕ) → cells ≡ blocked_map m n s → (c : ℕ) → c < n → open_in cells c ≡ leaves_open m s c
+pub open_is : (m : Mover) (n : ℕ) (s cells : List ℕ) → cells ≡ blocked_map m n s → (c : ℕ) → c < n → open_in cells c ≡ leaves_open m s c
 unfolding open_in
 open_is m n s cells e c h = ap (λ (x : ℕ). eqb x 0) (ap (λ (l : List ℕ). get_or l c 0) e ∙ blocked_at_lem m n s c h) ∙ open_bit (leaves_open m s c)
 

@@ -49,7 +49,7 @@ pub record RouteWritten (o : Option (List ℕ)) (route' : List ℕ) (n : ℕ) : 
   pub number : n ≡ length points
   pub first : take n route' ≡ points
 
-routed_some : (o : Option (List ℕ)) (route route' : List ℕ) (n : ℕ) → counted o ≡ Some n → route' ≡ laid_into o route → RouteWritten o route' n
+pub routed_some : (o : Option (List ℕ)) (route route' : List ℕ) (n : ℕ) → counted o ≡ Some n → route' ≡ laid_into o route → RouteWritten o route' n
 unfolding counted laid_into
 routed_some none route route' n e t = cc
 routed_some (some p) route route' n e t =

@@ -26,15 +26,16 @@ impl FlatPlaces<'_> {
         self.numbers[i * NUMBERS + 1] as usize
     }
 
-    // How many members are of the group.
-    #[tactic(auto, using(crate::proofs::Members::group_counted))]
+    // How many members are of the group. Each adds 0 or 1: where groups come in no order, a branch for each would be guessed wrong.
     pub fn count_in_group(&self, set: &[u16], group: usize) -> usize
         requires { InRow self.now.numbers.now set.now }
         ensures { result ≡ of_group self.now.numbers.now group set.now }
     {
-        set.iter()
-            .filter(|&&m| self.group(m as usize) == group)
-            .count()
+        let mut count = 0;
+        for &m in set {
+            count += usize::from(self.group(m as usize) == group);
+        }
+        count
     }
 
     // How many members are of the group of placement i, as against its slots: fewer, as many, or more.

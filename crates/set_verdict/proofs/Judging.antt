@@ -4,6 +4,7 @@ use mathlib.Core.Path.{◌≡◌, sym, ap, ◌∙◌}
 use mathlib.Core.Bool.{Bool, true, false, not, ◌&&◌}
 use mathlib.Core.Option.{Option}
 use mathlib.Core.List.{List, [], ◌∷◌}
+use lib.IntN.{ℤ}
 use lib.ListN.{length}
 use Rattle.base_laws.proofs.Stores.{all_length}
 use Rattle.base_laws.proofs.Firsts.{picked, passed_by, none_holds}
@@ -34,6 +35,27 @@ use Rattle.set_shut.specs.Shut.{past_shut}
 use Rattle.set_clash.specs.Clashes.{crowded, clashing}
 use Rattle.set_verdict.specs.Fit.{past_fit}
 
+-- ---- the verdict over placements lent flat
+module _ (q : Query) (start end n : ℕ) (groups numbers : List ℕ) (edges : List ℤ) (block_base allow_base : List ℕ) (steps : List Step) (s : List ℕ) where
+  abbrev flat : Board
+  flat = flat_board q start end n groups numbers edges block_base allow_base steps
+
+  pub verdict_flat : verdict flat s ≡ first_of ((any_of (crowded (places_in n groups numbers edges) s) s, Slots) ∷ (any_of (clashing edges s) s, Overlap) ∷ [])
+      (past_fit q.window steps start end (mover_in q.window edges q.block block_base) (allow_in q.window edges q.allow allow_base) s)
+  unfolding verdict over_slots overlaps open_ends crowded clashing past_fit past_shut first_of flat_board places_in passed minimal is_minimal_block allowed_route route_past
+  verdict_flat =
+      ap
+      (λ (o : Option (List ℕ)).
+      first_of
+      ((over_slots flat s, Slots)
+      ∷ (overlaps flat s, Overlap)
+      ∷ (not (open_ends flat flat.block s), EndCovered)
+      ∷ (is_some (passed q.window steps start end flat.block s), Open)
+      ∷ (not (is_minimal_block flat s), Spare)
+      ∷ (not (is_some o), Shut)
+      ∷ []) Wall)
+      (past_cases q.window steps start end s flat.allow)
+
 -- ---- the verdict over what is given
 module _ (i : Given) (n : ℕ) (steps : List Step) (s : List ℕ) (fours : length i.places.numbers.now ≡ 4 * n) (eights : length i.places.edges.now ≡ 8 * n)
     (start end : ℕ) (a : start ≡ centre_at i.query.window i.query.start) (b : end ≡ centre_at i.query.window i.query.end) where
@@ -48,32 +70,21 @@ module _ (i : Given) (n : ℕ) (steps : List Step) (s : List ℕ) (fours : lengt
   abbrev ruled : Verdict
   ruled = verdict (board_of steps (inputs_in i)) s
 
-  verdict_flat : ruled ≡ first_of ((any_of (crowded (places_at n i.places) s) s, Slots) ∷ (any_of (clashing i.places.edges.now s) s, Overlap) ∷ []) fit
-  unfolding verdict over_slots overlaps open_ends crowded clashing past_fit past_shut first_of flat_board places_in passed minimal is_minimal_block allowed_route route_past
-  verdict_flat =
+  pub verdict_given : ruled ≡ first_of ((any_of (crowded (places_at n i.places) s) s, Slots) ∷ (any_of (clashing i.places.edges.now s) s, Overlap) ∷ []) fit
+  verdict_given =
       ap (λ (g : Board). verdict g s)
       (flat_board_lem n i.places.numbers.now i.places.edges.now fours eights i.query start end i.places.groups.now i.block_base.now i.allow_base.now steps a b)
-      ∙ ap
-      (λ (o : Option (List ℕ)).
-      first_of
-      ((over_slots board s, Slots)
-      ∷ (overlaps board s, Overlap)
-      ∷ (not (open_ends board board.block s), EndCovered)
-      ∷ (is_some (passed i.query.window steps start end board.block s), Open)
-      ∷ (not (is_minimal_block board s), Spare)
-      ∷ (not (is_some o), Shut)
-      ∷ []) Wall)
-      (past_cases i.query.window steps start end s board.allow)
+      ∙ verdict_flat i.query start end n i.places.groups.now i.places.numbers.now i.places.edges.now i.block_base.now i.allow_base.now steps s
 
   pub verdict_slots : (o : Bool) → o ≡ any_of (crowded (places_at n i.places) s) s → o ≡ true → Slots ≡ ruled
-  verdict_slots o e t = sym (verdict_flat ∙ picked _ Slots _ fit (sym e ∙ t))
+  verdict_slots o e t = sym (verdict_given ∙ picked _ Slots _ fit (sym e ∙ t))
 
   module _ (o : Bool) (e : o ≡ any_of (crowded (places_at n i.places) s) s) (f : o ≡ false) (c : Bool) (p : c ≡ any_of (clashing i.places.edges.now s) s) where
     pub verdict_overlap : c ≡ true → Overlap ≡ ruled
-    verdict_overlap t = sym (verdict_flat ∙ passed_by _ Slots _ fit (sym e ∙ f) ∙ picked _ Overlap _ fit (sym p ∙ t))
+    verdict_overlap t = sym (verdict_given ∙ passed_by _ Slots _ fit (sym e ∙ f) ∙ picked _ Overlap _ fit (sym p ∙ t))
 
     pub verdict_fit : c ≡ false → fit ≡ ruled
-    verdict_fit t = sym (verdict_flat ∙ passed_by _ Slots _ fit (sym e ∙ f) ∙ passed_by _ Overlap _ fit (sym p ∙ t) ∙ none_holds fit)
+    verdict_fit t = sym (verdict_given ∙ passed_by _ Slots _ fit (sym e ∙ f) ∙ passed_by _ Overlap _ fit (sym p ∙ t) ∙ none_holds fit)
 
 -- ---- the verdict by routes
 module _ (w : Rect) (steps : List Step) (start end : ℕ) (block : Mover) (allow : Option Mover) (s : List ℕ) where

@@ -34,7 +34,7 @@ module _ (table : List ℤ) (s : Sheet) (f : FlatSheet) (h : FlatAs s f) where
   block_same p ep = ap (λ q. prepare_call table q no_bytes no_work) (sym (prepared_for s f h f.query.block s.block (ap (λ (q : Query). q.block) h.query_is))) ∙ ep
 
   -- whether there is an allowed mover
-  nobody_searched : f.query.allow ≡ None → (block_base : List ℕ) (work : Work) → allow_text table s s.allow block_base work ≡ search_text table s block_base no_bytes work
+  pub nobody_searched : f.query.allow ≡ None → (block_base : List ℕ) (work : Work) → allow_text table s s.allow block_base work ≡ search_text table s block_base no_bytes work
   unfolding query_of allowed_by allow_text
   nobody_searched e block_base work = go s.allow (sym (ap (λ (q : Query). q.allow) h.query_is) ∙ e)
     where

@@ -89,10 +89,10 @@ module _ {s : List ℕ} {at : ℕ} where
       unfolding good
       lines_second = left_then lines_first (one_line (bytes "(ends $ $ $ $)\n") (is "(block $ $ $ $)\n" then allow_on) refl refl k.got)
 
-      lines_no_block : {g₀ g₁ : List ℕ} → Absent (is "(block $ $ $ $)\n") s b → LinesRead s at g₀ g₁ None
+      pub lines_no_block : {g₀ g₁ : List ℕ} → Absent (is "(block $ $ $ $)\n") s b → LinesRead s at g₀ g₁ None
       lines_no_block l = record { answer = only_then lines_second (only_one (is "(block $ $ $ $)\n") allow_on l) }
 
-      lines_got : {f₃ : List ℕ} {n : ℕ} → PlacedLine (bytes "(block $ $ $ $)\n") s b 10 f₂ f₃ n → LinesRead s at f₀ f₃ (Some n)
+      pub lines_got : {f₃ : List ℕ} {n : ℕ} → PlacedLine (bytes "(block $ $ $ $)\n") s b 10 f₂ f₃ n → LinesRead s at f₀ f₃ (Some n)
       unfolding good fields
       lines_got l =
           let w : length h.values ≡ 4 = wide (bytes "(window # # # #)\n") h.got in

@@ -16,11 +16,11 @@ use Rattle.std.proofs.Math.Facts.{Fits-of_lt}
 use Rattle.base_laws.proofs.Members.{either}
 use Rattle.sheet_form.specs.Sheets.{signed_of}
 
-low_edge : (x : ℕ) → x < 2147483648 → to_z w32 x ≡ signed_of x
+pub low_edge : (x : ℕ) → x < 2147483648 → to_z w32 x ≡ signed_of x
 unfolding signed_of
 low_edge x lt = to_z_pos w32 lt ∙ sym (rw (signed_of, lt-ltb x 2147483648 lt))
 
-high_edge : (x : ℕ) → 2147483648 ≤ x → x < 4294967296 → to_z w32 x ≡ signed_of x
+pub high_edge : (x : ℕ) → 2147483648 ≤ x → x < 4294967296 → to_z w32 x ≡ signed_of x
 unfolding signed_of
 high_edge x h lt =
     let e : x ≡ 4294967296 - suc (4294967295 - x) = omega arith in

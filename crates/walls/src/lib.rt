@@ -39,6 +39,9 @@ pub use call_rank::closer;
 // Begins a search and hands its record back.
 pub use walls_begin::begin;
 
+// The record that begin hands back, all zero where it refused.
+pub use call_begin::record_or_none;
+
 // Evaluates n sets more, or stops. The search record is altered here alone.
 pub use walls_step::step;
 

@@ -706,7 +706,7 @@ pub extern "C" fn hitrovzen_rank(
     *quotient = rank.quotient;
     *remainder = rank.remainder;
     *divisor = rank.divisor;
-    walls_told::number_of(&ranked)
+    walls_told::rank_answer_in(ranked)
 }
 
 // Whether the first rank is closer than the other: 1 if it is, else 0.

@@ -195,7 +195,7 @@ pub fn read_on(
     limits: Limits,
     rec: &[u32],
     k: u32,
-    kept: &Kept<'_>,
+    kept: &Kept<'_, '_>,
     index: &mut u32,
     first: &mut u32,
     count: &mut u32,

@@ -9,7 +9,7 @@ ghost use Rattle.call_read.specs.Told.{number_in, index_in};
 ghost use Rattle.walls_numbers.specs.Numbers.{judged_verdict, judged_ground};
 ghost use Rattle.walls_numbers.specs.Lent.{numbers_left};
 ghost use Rattle.rule_ranks.specs.Ranks.{ranking_of};
-ghost use Rattle.walls_numbers.specs.Ranked.{ranked_numbers};
+ghost use Rattle.walls_numbers.specs.Ranked.{ranked_answer, ranked_numbers};
 
 use base_model::{Judged, Rank, Record, Refusal};
 
@@ -91,6 +91,14 @@ const NO_RANK: Rank = Rank {
     remainder: 0,
     divisor: 0,
 };
+
+// The number of a ranking's answer, 0 where there is a rank and where there is none.
+#[tactic(auto, unfolding(rule_ranks::specs::Ranks::ranking_of, walls_numbers::specs::Ranked::ranked_answer))]
+pub fn rank_answer_in(ranked: Result<Option<Rank>, Refusal>) -> u32
+    ensures { result ≡ ranked_answer (ranking_of ranked) }
+{
+    number_of(&ranked)
+}
 
 // The rank, or three zeros.
 #[tactic(auto, unfolding(rule_ranks::specs::Ranks::ranking_of, walls_numbers::specs::Ranked::ranked_numbers, walls_numbers::specs::Ranked::no_rank))]

@@ -51,27 +51,33 @@ returns-in_err-late_checks-clause-call c =
 pub clear_store-requires : goal.clear_store-requires
 unfolding inputs_of
 clear_store-requires c =
+    let lent = c.args.given.now.places in
+    let many = c.place_count-places.ensures lent.numbers.now lent.edges.now refl refl in
     let i = inputs_in c.args.given.now in
     let w = work_of c.args.work.now in
     let s = store_of_areas c.args.store.now in
     let b = begun_found i c.args.limits w s c.requires in
-    subst (λ (k : ℕ). StoreRoom c.args.given.now.query c.args.limits k s.lists s.visited s.layouts s.points) (sym c.place_count-places.ensures)
+    subst (λ (k : ℕ). StoreRoom c.args.given.now.query c.args.limits k s.lists s.visited s.layouts s.points) (sym many)
     (store_room i c.args.limits s b.store_long b.framing.window b.limiting.states b.limiting.results)
 
 pub overflow_cast-places : goal.overflow_cast-places
 unfolding inputs_of
 overflow_cast-places c =
+    let lent = c.args.given.now.places in
+    let many = c.place_count-places.ensures lent.numbers.now lent.edges.now refl refl in
     let p = c.args.given.now.places in
     let i = inputs_in c.args.given.now in
     let f = (first_both (both_routes (board_of (steps_of c.args.steps.now) i)) (place_checks i) (done_passes c.late_checks.ensures.result_value c.in_ok-late_checks.was)).1 in
-    omega (arith, c.place_count-places.ensures, (places_whole i p.numbers.now p.edges.now refl f).few)
+    omega (arith, many, (places_whole i p.numbers.now p.edges.now refl f).few)
 
 pub returns-clause-call : goal.returns-clause-call
 unfolding reply_of record_or inputs_of
 returns-clause-call c =
+    let lent = c.args.given.now.places in
+    let many = c.place_count-places.ensures lent.numbers.now lent.edges.now refl refl in
     let i = inputs_in c.args.given.now in
     let w = work_of c.args.work.now in
     let s = store_of_areas c.args.store.now in
     accepts (steps_of c.args.steps.now) i c.args.limits w s c.requires (c.late_checks.ensures.work_unchanged ∙ c.clear_work.ensures.cleared)
     (done_passes c.late_checks.ensures.result_value c.in_ok-late_checks.was)
-    (c.begun_record.ensures ∙ ap (λ (k : ℕ). record_of k begun) c.place_count-places.ensures) (c.clear_store.ensures.cleared i refl (sym c.place_count-places.ensures))
+    (c.begun_record.ensures ∙ ap (λ (k : ℕ). record_of k begun) many) (c.clear_store.ensures.cleared i refl (sym many))

@@ -60,9 +60,11 @@ returns-in_err-check_places c = λ w h.
 pub returns : goal.returns
 unfolding inputs_of
 returns c = λ w h.
+    let lent = c.args.given.now.places in
+    let many = c.place_count-count.ensures lent.numbers.now lent.edges.now refl refl in
     let i = inputs_in c.args.given.now in
     let s = c.args.selection.now in
-    let fits = c.selection_fits.ensures ∙ ap (λ (n : ℕ). selection_fits n s) c.place_count-count.ensures in
+    let fits = c.selection_fits.ensures ∙ ap (λ (n : ℕ). selection_fits n s) many in
     ap reply_of c.ask.ensures ∙ selection_told c.selection_fits.result ∙ ap (λ (b : Bool). first (ask 17 b ∷ [])) fits
     ∙ sym (selection_last i s w (done_passes (c.check_groups.ensures i refl) c.in_ok-check_groups.was)
     (done_passes (c.check_query.ensures i refl) c.in_ok-check_query.was)

@@ -15,12 +15,12 @@ use Rattle.rule_layouts.specs.Flat.{places_in}
 use Rattle.call_record.proofs.record_fits.Goals as goal
 
 pub returns-then-not-numbers_fit : goal.returns-then-not-numbers_fit
-returns-then-not-numbers_fit c =
+returns-then-not-numbers_fit c block_base allow_base points =
     let a = c.args in
     let n : ℕ = length a.given.now.places.numbers.now / 4 in
     let p : figures_fit a.limits n a.rec ≡ false = sym c.numbers_fit.ensures ∙ c.if-not-numbers_fit.true in
     sym (record_parts a.given.now.query a.limits n a.given.now.places.groups.now a.given.now.places.numbers.now a.given.now.places.edges.now a.rec a.kept.now.lists.now a.kept.now.visited.now
-    a.kept.now.layouts.now c.requires.rows.fours c.requires.rows.eights a.given.now.block_base.now a.given.now.allow_base.now a.kept.now.points.now
+    a.kept.now.layouts.now c.requires.rows.fours c.requires.rows.eights block_base allow_base points
     ∙ fails_1 (figures_fit a.limits n a.rec) (all_of (row_fits n a.kept.now.visited.now) (below a.rec.evaluations)) (all_of (row_fits n a.kept.now.layouts.now) (below a.rec.layouts))
     (routes_pass (cap_of a.given.now.query) (take a.rec.layouts a.rec.routes)) (leb a.rec.lists 6)
     (all_of (list_passes (places_in n a.given.now.places.groups.now a.given.now.places.numbers.now a.given.now.places.edges.now) a.rec a.kept.now.lists.now)
@@ -35,14 +35,14 @@ rows_fit-requires c =
     omega (arith, t.visits, c.requires.visited_long)
 
 pub returns-then-not-rows_fit : goal.returns-then-not-rows_fit
-returns-then-not-rows_fit c =
+returns-then-not-rows_fit c block_base allow_base points =
     let a = c.args in
     let n : ℕ = length a.given.now.places.numbers.now / 4 in
     let p : figures_fit a.limits n a.rec ≡ true = sym c.numbers_fit.ensures ∙ c.if-not-numbers_fit.false in
     let q : all_of (row_fits n a.kept.now.visited.now) (below a.rec.evaluations) ≡ false =
     sym c.rows_fit.ensures ∙ c.if-not-rows_fit.true in
     sym (record_parts a.given.now.query a.limits n a.given.now.places.groups.now a.given.now.places.numbers.now a.given.now.places.edges.now a.rec a.kept.now.lists.now a.kept.now.visited.now
-    a.kept.now.layouts.now c.requires.rows.fours c.requires.rows.eights a.given.now.block_base.now a.given.now.allow_base.now a.kept.now.points.now
+    a.kept.now.layouts.now c.requires.rows.fours c.requires.rows.eights block_base allow_base points
     ∙ fails_2 (figures_fit a.limits n a.rec) (all_of (row_fits n a.kept.now.visited.now) (below a.rec.evaluations)) (all_of (row_fits n a.kept.now.layouts.now) (below a.rec.layouts))
     (routes_pass (cap_of a.given.now.query) (take a.rec.layouts a.rec.routes)) (leb a.rec.lists 6)
     (all_of (list_passes (places_in n a.given.now.places.groups.now a.given.now.places.numbers.now a.given.now.places.edges.now) a.rec a.kept.now.lists.now)
@@ -57,7 +57,7 @@ rows_fit-requires-2 c =
     omega (arith, t.shown, c.requires.layouts_long)
 
 pub returns-then-not-rows_fit-2 : goal.returns-then-not-rows_fit-2
-returns-then-not-rows_fit-2 c =
+returns-then-not-rows_fit-2 c block_base allow_base points =
     let a = c.args in
     let n : ℕ = length a.given.now.places.numbers.now / 4 in
     let p : figures_fit a.limits n a.rec ≡ true = sym c.numbers_fit.ensures ∙ c.if-not-numbers_fit.false in
@@ -66,7 +66,7 @@ returns-then-not-rows_fit-2 c =
     let r : all_of (row_fits n a.kept.now.layouts.now) (below a.rec.layouts) ≡ false =
     sym c.rows_fit-2.ensures ∙ c.if-not-rows_fit-2.true in
     sym (record_parts a.given.now.query a.limits n a.given.now.places.groups.now a.given.now.places.numbers.now a.given.now.places.edges.now a.rec a.kept.now.lists.now a.kept.now.visited.now
-    a.kept.now.layouts.now c.requires.rows.fours c.requires.rows.eights a.given.now.block_base.now a.given.now.allow_base.now a.kept.now.points.now
+    a.kept.now.layouts.now c.requires.rows.fours c.requires.rows.eights block_base allow_base points
     ∙ fails_3 (figures_fit a.limits n a.rec) (all_of (row_fits n a.kept.now.visited.now) (below a.rec.evaluations)) (all_of (row_fits n a.kept.now.layouts.now) (below a.rec.layouts))
     (routes_pass (cap_of a.given.now.query) (take a.rec.layouts a.rec.routes)) (leb a.rec.lists 6)
     (all_of (list_passes (places_in n a.given.now.places.groups.now a.given.now.places.numbers.now a.given.now.places.edges.now) a.rec a.kept.now.lists.now)
@@ -91,7 +91,7 @@ routes_fit-requires c =
     (omega (arith, t.shown, c.requires.results), c.route_cap.ensures.1)
 
 pub returns-then-not-routes_fit : goal.returns-then-not-routes_fit
-returns-then-not-routes_fit c =
+returns-then-not-routes_fit c block_base allow_base points =
     let a = c.args in
     let n : ℕ = length a.given.now.places.numbers.now / 4 in
     let p : figures_fit a.limits n a.rec ≡ true = sym c.numbers_fit.ensures ∙ c.if-not-numbers_fit.false in
@@ -103,14 +103,14 @@ returns-then-not-routes_fit c =
     ap (λ (x : ℕ). routes_pass x (take a.rec.layouts a.rec.routes)) (sym c.route_cap.ensures.0) ∙ sym c.routes_fit.ensures
     ∙ c.if-not-routes_fit.true in
     sym (record_parts a.given.now.query a.limits n a.given.now.places.groups.now a.given.now.places.numbers.now a.given.now.places.edges.now a.rec a.kept.now.lists.now a.kept.now.visited.now
-    a.kept.now.layouts.now c.requires.rows.fours c.requires.rows.eights a.given.now.block_base.now a.given.now.allow_base.now a.kept.now.points.now
+    a.kept.now.layouts.now c.requires.rows.fours c.requires.rows.eights block_base allow_base points
     ∙ fails_4 (figures_fit a.limits n a.rec) (all_of (row_fits n a.kept.now.visited.now) (below a.rec.evaluations)) (all_of (row_fits n a.kept.now.layouts.now) (below a.rec.layouts))
     (routes_pass (cap_of a.given.now.query) (take a.rec.layouts a.rec.routes)) (leb a.rec.lists 6)
     (all_of (list_passes (places_in n a.given.now.places.groups.now a.given.now.places.numbers.now a.given.now.places.edges.now) a.rec a.kept.now.lists.now)
     (below a.rec.lists)) p q r s)
 
 pub returns-then-rec-gt-MOST_LISTS : goal.returns-then-rec-gt-MOST_LISTS
-returns-then-rec-gt-MOST_LISTS c =
+returns-then-rec-gt-MOST_LISTS c block_base allow_base points =
     let a = c.args in
     let n : ℕ = length a.given.now.places.numbers.now / 4 in
     let p : figures_fit a.limits n a.rec ≡ true = sym c.numbers_fit.ensures ∙ c.if-not-numbers_fit.false in
@@ -122,7 +122,7 @@ returns-then-rec-gt-MOST_LISTS c =
     ap (λ (x : ℕ). routes_pass x (take a.rec.layouts a.rec.routes)) (sym c.route_cap.ensures.0) ∙ sym c.routes_fit.ensures
     ∙ c.if-not-routes_fit.false in
     sym (record_parts a.given.now.query a.limits n a.given.now.places.groups.now a.given.now.places.numbers.now a.given.now.places.edges.now a.rec a.kept.now.lists.now a.kept.now.visited.now
-    a.kept.now.layouts.now c.requires.rows.fours c.requires.rows.eights a.given.now.block_base.now a.given.now.allow_base.now a.kept.now.points.now
+    a.kept.now.layouts.now c.requires.rows.fours c.requires.rows.eights block_base allow_base points
     ∙ fails_5 (figures_fit a.limits n a.rec) (all_of (row_fits n a.kept.now.visited.now) (below a.rec.evaluations)) (all_of (row_fits n a.kept.now.layouts.now) (below a.rec.layouts))
     (routes_pass (cap_of a.given.now.query) (take a.rec.layouts a.rec.routes)) (leb a.rec.lists 6)
     (all_of (list_passes (places_in n a.given.now.places.groups.now a.given.now.places.numbers.now a.given.now.places.edges.now) a.rec a.kept.now.lists.now)
@@ -137,7 +137,7 @@ lists_fit-requires c =
     record { rows = c.requires.rows; long = c.requires.lists_long; deep = c.if-rec-gt-MOST_LISTS.false; places = t.places }
 
 pub returns : goal.returns
-returns c =
+returns c block_base allow_base points =
     let a = c.args in
     let n : ℕ = length a.given.now.places.numbers.now / 4 in
     let p : figures_fit a.limits n a.rec ≡ true = sym c.numbers_fit.ensures ∙ c.if-not-numbers_fit.false in
@@ -150,7 +150,7 @@ returns c =
     ∙ c.if-not-routes_fit.false in
     c.lists_fit.ensures
     ∙ sym (record_parts a.given.now.query a.limits n a.given.now.places.groups.now a.given.now.places.numbers.now a.given.now.places.edges.now a.rec a.kept.now.lists.now
-    a.kept.now.visited.now a.kept.now.layouts.now c.requires.rows.fours c.requires.rows.eights a.given.now.block_base.now a.given.now.allow_base.now a.kept.now.points.now
+    a.kept.now.visited.now a.kept.now.layouts.now c.requires.rows.fours c.requires.rows.eights block_base allow_base points
     ∙ comes_to (figures_fit a.limits n a.rec) (all_of (row_fits n a.kept.now.visited.now) (below a.rec.evaluations)) (all_of (row_fits n a.kept.now.layouts.now) (below a.rec.layouts))
     (routes_pass (cap_of a.given.now.query) (take a.rec.layouts a.rec.routes)) (leb a.rec.lists 6)
     (all_of (list_passes (places_in n a.given.now.places.groups.now a.given.now.places.numbers.now a.given.now.places.edges.now) a.rec a.kept.now.lists.now)

@@ -1,14 +1,10 @@
 -- `walls_c::hitrovzen_rank` meets its contract: the call is made, and its answer told as numbers.
 use mathlib.Core.Path.{◌≡◌, refl, sym, ap, ap₂, ◌∙◌}
-use Rattle.std.specs.Prelude.{Option, Some, None, Result, Ok, Err}
-use Rattle.base_model.specs.Answers.{reply_of}
-use Rattle.base_model.specs.declared.Refusal.{Refusal}
-use Rattle.call_read.specs.Told.{number_in}
 use Prim.Native.Nat.{ℕ}
 use Rattle.base_model.specs.declared.Rect.{Rect}
 use Rattle.base_model.specs.declared.Site.{Site}
 use Rattle.base_model.specs.declared.Rank.{Rank}
-use Rattle.rule_ranks.specs.Ranks.{Ranking, rank_call, ranking_of}
+use Rattle.rule_ranks.specs.Ranks.{Ranking, rank_call}
 use Rattle.walls_numbers.specs.Ranked.{ranked_answer, ranked_numbers, rank_on}
 use Rattle.walls_numbers.proofs.Signed.{rect_back}
 use Rattle.walls_c.proofs.hitrovzen_rank.Goals as goal
@@ -21,13 +17,6 @@ told across down s r r' o answer k e f g h =
     ap (λ (q : Ranking). record { answer = ranked_answer q; rank = ranked_numbers q }) (ap (rank_call across down s) (sym e) ∙ f)
     ∙ ap₂ (λ (n : ℕ) (m : Rank). record { answer = n; rank = m }) (sym g) (sym h)
 
--- the number of a ranking is that of its answer
-ranked_number : (r : Result (Option Rank) Refusal) → number_in (reply_of r) ≡ ranked_answer (ranking_of r)
-unfolding number_in reply_of ranked_answer ranking_of
-ranked_number (Ok (Some k)) = refl
-ranked_number (Ok None) = refl
-ranked_number (Err e) = refl
-
 pub returns : goal.returns
 returns c =
     let a = c.args in
@@ -36,4 +25,4 @@ returns c =
     record { first = record { x = a.first_x; y = a.first_y }; second = record { x = a.second_x; y = a.second_y }; radius = a.radius } in
     told a.across a.down s _ _ _ _ _
     (rect_back a.footprint_left a.footprint_top a.footprint_right a.footprint_bottom f.footprint_left f.footprint_top f.footprint_right f.footprint_bottom)
-    c.rank-ranked.ensures (c.number_of.ensures ∙ ranked_number c.rank-ranked.result) c.rank_in-rank.ensures
+    c.rank-ranked.ensures c.rank_answer_in.ensures c.rank_in-rank.ensures
