@@ -68,6 +68,7 @@ pub fn late_checks(given: &Given<'_>, steps: &[i32], work: &mut Work<'_>) -> Res
     ensures work_unchanged { work_of work.new ≡ work_of work.old }
     ensures same_work { SameWork work.old work.new }
 {
-    check_routes(given, steps, work)?;
-    call_checks::check_places(given.query.window, &given.places)
+    let passed = check_routes(given, steps, work);
+    let placed = call_checks::check_places(given.query.window, &given.places);
+    passed.and(placed)
 }

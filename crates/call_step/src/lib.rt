@@ -57,6 +57,9 @@ pub fn step(
     ensures same_store { SameStore store.old store.new }
 {
     ask(table_fits(steps), Refusal::StepsInvalid)?;
-    step_checks(given, limits, rec, work.lengths(), &store.kept())?;
+    // Not by `?`: must-fail/refusal_told_as_done.edit puts another answer here.
+    if let Err(refusal) = step_checks(given, limits, rec, work.lengths(), &store.kept()) {
+        return Err(refusal);
+    }
     Ok(call_portions::step_checked(given, limits, steps, rec, n, work, store))
 }

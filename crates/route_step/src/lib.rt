@@ -51,7 +51,11 @@ fn passes(grid: &Grid<'_>, x: usize, y: usize, dx: i32, dy: i32, nx: usize, ny: 
     if dx == 0 || dy == 0 {
         return true;
     }
-    grid.is_open(y * grid.width + nx) && grid.is_open(ny * grid.width + x)
+    // Not by `&&`: must-fail/side_ignored.edit puts another answer here.
+    if !grid.is_open(y * grid.width + nx) {
+        return false;
+    }
+    grid.is_open(ny * grid.width + x)
 }
 
 // The centre u at column x and row y tries one step. The result is the number of centres reached.

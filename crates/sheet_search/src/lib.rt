@@ -39,7 +39,8 @@ pub fn search(
         layouts: &mut layouts,
         points: &mut points,
     };
-    match call_begin::begin(given, limits, steps, work, &mut store) {
+    let begun = call_begin::begin(given, limits, steps, work, &mut store);
+    match begun {
         Ok(rec) => sheet_finish::finish(given, limits, steps, rec, work, &mut store, out),
         Err(refusal) => sheet_write::write_refusal(out, refusal),
     }

@@ -20,6 +20,14 @@ const LENGTHS: usize = ROUTES + LAYOUTS;
 
 const NEXTS: usize = LENGTHS + SLOTS;
 
+// Each entry becomes that of `from`.
+fn copy(to: &mut [u32], from: &[u32])
+    requires { length to.old ≡ length from.now }
+    ensures { to.new ≡ from.now }
+{
+    to.copy_from_slice(from);
+}
+
 // The record that the first fifty numbers are.
 fn record_of(rec: &[u32]) -> Record
     requires { 50 ≤ length rec.now }
@@ -28,9 +36,9 @@ fn record_of(rec: &[u32]) -> Record
     let mut routes = [0; LAYOUTS];
     let mut lengths = [0; SLOTS];
     let mut nexts = [0; SLOTS];
-    routes.copy_from_slice(&rec[ROUTES..LENGTHS]);
-    lengths.copy_from_slice(&rec[LENGTHS..NEXTS]);
-    nexts.copy_from_slice(&rec[NEXTS..RECORD_NUMBERS]);
+    copy(&mut routes, &rec[ROUTES..LENGTHS]);
+    copy(&mut lengths, &rec[LENGTHS..NEXTS]);
+    copy(&mut nexts, &rec[NEXTS..RECORD_NUMBERS]);
     Record {
         reason: rec[0],
         evaluations: rec[1],
@@ -68,10 +76,10 @@ fn put_record(rec: &mut [u32], r: Record)
         r.lists,
         u32::from(r.pending),
     ];
-    rec[..ROUTES].copy_from_slice(&head);
-    rec[ROUTES..LENGTHS].copy_from_slice(&r.routes);
-    rec[LENGTHS..NEXTS].copy_from_slice(&r.lengths);
-    rec[NEXTS..RECORD_NUMBERS].copy_from_slice(&r.nexts);
+    copy(&mut rec[..ROUTES], &head);
+    copy(&mut rec[ROUTES..LENGTHS], &r.routes);
+    copy(&mut rec[LENGTHS..NEXTS], &r.lengths);
+    copy(&mut rec[NEXTS..RECORD_NUMBERS], &r.nexts);
 }
 
 // Lays the record where the call was accepted and there is room.

@@ -1,9 +1,8 @@
 -- `call_step::step` meets its contract: a refusal writes nothing, and a step whose checks have passed is the definition's.
-use mathlib.Core.Path.{◌≡◌, refl, ap, ◌∙◌}
+use mathlib.Core.Path.{◌≡◌, refl, sym, ap, ◌∙◌}
 use mathlib.Core.Bool.{true, false}
 use Rattle.std.proofs.Common.{Err, arith}
 use Rattle.std.proofs.lemmas.Grind.{common_steps}
-use Rattle.std.proofs.lemmas.Result.{err_from_is_err_and}
 use Rattle.base_model.specs.Answers.{first, reply_of, said_of}
 use Rattle.base_model.specs.declared.Refusal.TheVariants.{StepsInvalid}
 use Rattle.rule_routes.specs.Edges.{table_fits}
@@ -12,7 +11,6 @@ use Rattle.rule_calls.specs.Calls.{record_or, step_checks}
 use Rattle.rule_calls.proofs.Tables.{table_once, step_over_lem, step_turned}
 use Rattle.set_places.specs.Given.{inputs_in}
 use Rattle.call_lengths.specs.Lent.{work_of, store_of_areas}
-use Rattle.call_checks.proofs.Passed.{done_passes, refused_says}
 use Rattle.call_step.proofs.Answered.{refused}
 use Rattle.call_step.proofs.step.Goals as goal
 
@@ -23,24 +21,23 @@ returns-in_err-ask-clause-call c =
     let says : c.from_residual.result ≡ Err StepsInvalid = grind (arith, common_steps, c.from_residual.ensures, c.ask.ensures, c.in_err-ask.was) in
     step_turned c.args.steps.now t _ _ _ _ _ _ ∙ rw says refl
 
-pub returns-in_err-step_checks-clause-call : goal.returns-in_err-step_checks-clause-call
+pub returns-in-Err-clause-call : goal.returns-in-Err-clause-call
 unfolding reply_of record_or
-returns-in_err-step_checks-clause-call c =
+returns-in-Err-clause-call c =
     let a = c.args in
     let t : table_fits a.steps.now ≡ true = grind (arith, common_steps, c.table_fits.ensures, c.ask.ensures, c.in_ok-ask.was) in
-    let p = err_from_is_err_and c.from_residual-in_err-step_checks.result c.from_residual-in_err-step_checks.ensures.1 in
-    let q = c.step_checks.ensures (work_of a.work.now) c.lengths.ensures
+    let q = c.in-Err.ensures (work_of a.work.now) c.lengths.ensures
     ∙ ap (λ (s : Store). first (step_checks (inputs_in a.given.now) a.limits a.rec (work_of a.work.now) s)) c.kept.ensures in
-    rw (p.1, p.2) (refused a.steps.now (inputs_in a.given.now) a.limits a.rec a.n (work_of a.work.now) (store_of_areas a.store.now) _ t
-    (refused_says q c.in_err-step_checks.was))
+    refused a.steps.now (inputs_in a.given.now) a.limits a.rec a.n (work_of a.work.now) (store_of_areas a.store.now) _ t (sym q)
 
 pub step_checked-requires : goal.step_checked-requires
+unfolding reply_of
 step_checked-requires c =
     let a = c.args in
-    let q = c.step_checks.ensures (work_of a.work.now) c.lengths.ensures
+    let q = c.in_default.ensures (work_of a.work.now) c.lengths.ensures
     ∙ ap (λ (s : Store). first (step_checks (inputs_in a.given.now) a.limits a.rec (work_of a.work.now) s)) c.kept.ensures in
     let t : table_fits c.args.steps.now ≡ true = grind (arith, common_steps, c.table_fits.ensures, c.ask.ensures, c.in_ok-ask.was) in record {
-      points_value = done_passes q c.in_ok-step_checks.was;
+      points_value = sym q;
       steps_value = table_once _ t;
     }
 

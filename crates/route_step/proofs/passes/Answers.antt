@@ -9,14 +9,13 @@ returns-then-dx-eq0 c =
     ⊎_elim (λ e. along_column _ _ _ _ _ _ _ (zero_bits _ c.ranges.dx e)) (λ e. along_row _ _ _ _ _ _ _ (zero_bits _ c.ranges.dy e.1))
     c.then-dx-eq0.either
 
-pub returns-else-is_open : goal.returns-else-is_open
-returns-else-is_open c =
-    c.if-is_open.false
-    ∙ side_row_shut _ _ _ _ _ _ _ _ _ c.requires.dx_value.0 c.requires.dx_value.1 (λ e. c.if-dx-eq0.false (rw e)) (λ e. c.if-dy-eq0.false (rw e))
-    (sym (c.if-is_open.ensures))
+pub returns-then-not-is_open : goal.returns-then-not-is_open
+returns-then-not-is_open c =
+    side_row_shut _ _ _ _ _ _ _ _ _ c.requires.dx_value.0 c.requires.dx_value.1 (λ e. c.if-dx-eq0.false (rw e)) (λ e. c.if-dy-eq0.false (rw e))
+    (sym (c.if-not-is_open.ensures))
 
-pub returns-then-is_open : goal.returns-then-is_open
-returns-then-is_open c =
-    c.is_open-then-is_open.ensures
+pub returns : goal.returns
+returns c =
+    c.is_open-2.ensures
     ∙ side_column _ _ _ _ _ _ _ _ _ c.requires.dx_value.0 c.requires.dx_value.1 (λ e. c.if-dx-eq0.false (rw e)) (λ e. c.if-dy-eq0.false (rw e))
-    (sym (c.if-is_open.ensures))
+    (sym (c.if-not-is_open.ensures))

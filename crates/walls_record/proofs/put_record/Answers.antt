@@ -37,8 +37,8 @@ returns c =
     let d : length r.nexts ≡ 6 = omega arith in
     let wide = length-append first r.routes in
     let wider = length-append (first ++ r.routes) r.lengths in
-    let one = ap (λ (q : List ℕ). q ++ drop 6 l) c.copy_from_slice.ensures.after in
-    let two = next_row l first r.routes 6 32 refl one c.copy_from_slice-2.ensures.after in
-    let three = next_row l (first ++ r.routes) r.lengths 38 6 (omega arith) two c.copy_from_slice-3.ensures.after in
-    next_row l (first ++ r.routes ++ r.lengths) r.nexts 44 6 (omega arith) three c.copy_from_slice-4.ensures.after
+    let one = ap (λ (q : List ℕ). q ++ drop 6 l) c.copy.ensures in
+    let two = next_row l first r.routes 6 32 refl one c.copy-2.ensures in
+    let three = next_row l (first ++ r.routes) r.lengths 38 6 (omega arith) two c.copy-3.ensures in
+    next_row l (first ++ r.routes ++ r.lengths) r.nexts 44 6 (omega arith) three c.copy-4.ensures
     ∙ ap (λ (b : ℕ). (r.reason ∷ r.evaluations ∷ r.placements ∷ r.layouts ∷ r.lists ∷ b ∷ []) ++ r.routes ++ r.lengths ++ r.nexts ++ drop 50 l) (c.from.ensures ∙ one_is r.pending)

@@ -4,4 +4,4 @@ use Rattle.walls_record.proofs.record_of.Goals as goal
 
 pub returns : goal.returns
 unfolding record_from
-returns c = cc (c.copy_from_slice.ensures.after, c.copy_from_slice-2.ensures.after, c.copy_from_slice-3.ensures.after)
+returns c = cc (c.copy.ensures, c.copy-2.ensures, c.copy-3.ensures)
