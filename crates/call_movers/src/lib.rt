@@ -68,6 +68,7 @@ pub fn late_checks(given: &Given<'_>, steps: &[i32], work: &mut Work<'_>) -> Res
     ensures work_unchanged { work_of work.new ≡ work_of work.old }
     ensures same_work { SameWork work.old work.new }
 {
+    // Both answers: must-fail/placements_before_routes.edit exchanges them.
     let passed = check_routes(given, steps, work);
     let placed = call_checks::check_places(given.query.window, &given.places);
     passed.and(placed)

@@ -57,7 +57,7 @@ pub fn step(
     ensures same_store { SameStore store.old store.new }
 {
     ask(table_fits(steps), Refusal::StepsInvalid)?;
-    // Not by `?`: must-fail/refusal_told_as_done.edit puts another answer here.
+    // A return of its own: must-fail/refusal_told_as_done.edit changes it.
     if let Err(refusal) = step_checks(given, limits, rec, work.lengths(), &store.kept()) {
         return Err(refusal);
     }

@@ -51,7 +51,7 @@ fn passes(grid: &Grid<'_>, x: usize, y: usize, dx: i32, dy: i32, nx: usize, ny: 
     if dx == 0 || dy == 0 {
         return true;
     }
-    // Not by `&&`: must-fail/side_ignored.edit puts another answer here.
+    // A return of its own: must-fail/side_ignored.edit changes it.
     if !grid.is_open(y * grid.width + nx) {
         return false;
     }

@@ -39,6 +39,7 @@ pub fn search(
         layouts: &mut layouts,
         points: &mut points,
     };
+    // Named: must-fail/begin_left_out.edit changes what is matched, and not the call.
     let begun = call_begin::begin(given, limits, steps, work, &mut store);
     match begun {
         Ok(rec) => sheet_finish::finish(given, limits, steps, rec, work, &mut store, out),

@@ -20,7 +20,7 @@ const LENGTHS: usize = ROUTES + LAYOUTS;
 
 const NEXTS: usize = LENGTHS + SLOTS;
 
-// Each entry becomes that of `from`.
+// Each entry becomes that of `from`: the one copy of all rows, which must-fail/first_entry_not_copied.edit changes.
 fn copy(to: &mut [u32], from: &[u32])
     requires { length to.old ≡ length from.now }
     ensures { to.new ≡ from.now }
