@@ -181,8 +181,9 @@ pub fn extensions(
             continue;
         }
         let footprint = places.footprint(i);
-        for &m in set {
-            let m = m as usize;
+        // By index: must-fail/member_not_looked_at.edit begins at 1.
+        for j in 0..set.len() {
+            let m = set[j] as usize;
             if i == m || ground_rects::intersects(footprint, places.footprint(m)) {
                 continue 'look;
             }

@@ -31,14 +31,14 @@ look-preserved-then-not-has_slot c =
     look_barred _ _ _ _ _ _ _ _ c.look.invariant c.look-test.true
     (no_slot _ _ c.look.i (sym (c.has_slot.ensures (length c.args.list.now)) ∙ c.if-not-has_slot.true))
 
-pub loop-m-init : goal.loop-m-init
-loop-m-init c = clear_start _ _ _
+pub loop-j-init : goal.loop-j-init
+loop-j-init c = clear_start _ _ _
 
 pub footprint-requires : goal.footprint-requires
 footprint-requires c =
     let r = c.requires.rowed in
     let s = c.args.set.now in
-    let j = c.loop-m.m-index in omega (arith, r.eights, r.named (get_or s j 0) (get_d_member s j 0 c.loop-m-test.true))
+    let j = c.loop-j.j in omega (arith, r.eights, r.named (get_or s j 0) (get_d_member s j 0 c.loop-j-test.true))
 
 pub look-preserved-then-i-m : goal.look-preserved-then-i-m
 unfolding places_in
@@ -46,17 +46,17 @@ look-preserved-then-i-m c =
     look_barred _ _ _ _ _ _ _ _ c.look.invariant c.look-test.true
     (elim c.then-i-m.branch [
       | then-i-m-via-then-i-m w ↦
-          is_member _ _ c.look.i c.loop-m.m-index c.loop-m-test.true (eq-eqb c.look.i (get_or c.args.set.now c.loop-m.m-index 0) w.if-i-m.true)
+          is_member _ _ c.look.i c.loop-j.j c.loop-j-test.true (eq-eqb c.look.i (get_or c.args.set.now c.loop-j.j 0) w.if-i-m.true)
       | then-i-m-via-else-i-m+then-intersects w ↦
-          in_the_way _ _ c.look.i c.loop-m.m-index c.loop-m-test.true
+          in_the_way _ _ c.look.i c.loop-j.j c.loop-j-test.true
           (sym (ap₂ intersects c.footprint-footprint.ensures w.footprint.ensures) ∙ sym w.intersects.ensures ∙ w.if-intersects.true)
     ])
 
-pub loop-m-preserved : goal.loop-m-preserved
+pub loop-j-preserved : goal.loop-j-preserved
 unfolding places_in
-loop-m-preserved c =
-    clear_more _ _ c.look.i c.loop-m.m-index c.loop-m.invariant c.loop-m-test.true
-    (ne_eqb c.look.i (get_or c.args.set.now c.loop-m.m-index 0) c.if-i-m.false)
+loop-j-preserved c =
+    clear_more _ _ c.look.i c.loop-j.j c.loop-j.invariant c.loop-j-test.true
+    (ne_eqb c.look.i (get_or c.args.set.now c.loop-j.j 0) c.if-i-m.false)
     (sym (ap₂ intersects c.footprint-footprint.ensures c.footprint.ensures) ∙ sym c.intersects.ensures ∙ c.if-intersects.false)
 
 pub look-preserved : goal.look-preserved
@@ -69,7 +69,7 @@ look-preserved c =
       | then-candidate_touches_witness w ↦
           rw (w.list-is, w.k-is)
           (look_add _ _ _ _ _ _ _ _ l c.look-test.true (omega arith)
-          (joins _ _ c.look.i c.loop-m.m-index c.loop-m.invariant c.loop-m-test.false (sym (c.has_slot.ensures (length a.list.now)) ∙ c.if-not-has_slot.false))
+          (joins _ _ c.look.i c.loop-j.j c.loop-j.invariant c.loop-j-test.false (sym (c.has_slot.ensures (length a.list.now)) ∙ c.if-not-has_slot.false))
           (λ steps t. touches steps t ∙ w.if-candidate_touches_witness.true))
       | else-candidate_touches_witness w ↦
           rw (w.list-is, w.k-is) (look_untouched _ _ _ _ _ _ _ _ l c.look-test.true (λ steps t. touches steps t ∙ w.if-candidate_touches_witness.false))

@@ -16,8 +16,8 @@ use Rattle.set_extend.proofs.extensions.Given as goal
 abbrev pub touch : List ℤ → Bounds → Rect → List ℕ → List Step → ℕ → Bool
 touch edges m w r steps i = touched (rect_at edges (8 * i + 4)) m w steps r
 
-abbrev pub invariant-loop-m : goal.invariant-loop-m
-invariant-loop-m l = Clear (places_at l.n l.places) l.set l.i l.m-index
+abbrev pub invariant-loop-j : goal.invariant-loop-j
+invariant-loop-j l = Clear (places_at l.n l.places) l.set l.i l.j
 
 abbrev pub invariant-look : goal.invariant-look
 invariant-look l =
